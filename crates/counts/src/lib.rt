@@ -1,0 +1,125 @@
+// How often each node is a child and each name is bound, in tables filled once: refusals 9 and 11.
+// Promises the model's refusal9 and refusal11 of the array that the bytes stand for. Depends on records, model and laws.
+ghost use mathlib.Core.Path.{_≡_};
+ghost use mathlib.Core.Bool.{_&&_, _||_};
+ghost use Prim.Native.Nat.{ℕ, _+_, _*_, _<_, _≤_};
+ghost use lib.ListN.{length, getD};
+ghost use lib.Dec.{ltb, eqb};
+ghost use Rattle.laws.specs.Search.{first};
+ghost use Rattle.laws.specs.Lists.{times, one};
+ghost use Rattle.model.specs.Formed.{refuse, children, binds, fieldsTo, binders, refusal9, refusal11};
+ghost use Rattle.records.specs.Record.{nodeOf, arrayOf, foundOf};
+ghost use Rattle.counts.specs.Counts.{addIf, paramTimes};
+use records::Check;
+use records::Record;
+use records::Refusal;
+use records::Trailer;
+
+// Adds one to an entry where `on` is true. An entry past the end is none.
+fn add_if(table: &mut [u16], on: bool, at: usize)
+    requires { ⌜ getD (now table) at 0 < 65535 ⌝ }
+    ensures { λ _. ⌜ now (table .exit) ≡ addIf (now (table .entry)) on at ⌝ }
+{
+    if on {
+        if at < table.len() {
+            table[at] = table[at] + 1;
+        }
+    }
+}
+
+// Counts the children that a record names.
+fn count_children(table: &mut [u16], r: Record)
+    requires { ⌜ ((v : ℕ) → getD (now table) v 0 < 65000) ⌝ }
+    ensures { λ _. ⌜ ((v : ℕ) → v < length (now (table .entry)) → getD (now (table .exit)) v 0 ≡ getD (now (table .entry)) v 0 + times (children (nodeOf r)) v) ⌝ }
+{
+    add_if(table, 0 < r.kind, r.left);
+    add_if(table, (r.kind == 2) | (r.kind == 3), r.right);
+}
+
+// How many child fields name each node.
+fn count_fields(file: &[u8], t: Trailer) -> [u16; 1024]
+    requires { ⌜ (t .start + 16 * t .nodes ≤ length (now file)) × (t .nodes ≤ 1024) ⌝ }
+    ensures { λ r. ⌜ ((v : ℕ) → v < 1024 → getD r v 0 ≡ fieldsTo (arrayOf (now (file .entry)) t) v) ⌝ }
+{
+    let mut table = [0u16; 1024];
+    let mut j: usize = 0;
+    while j < t.nodes {
+        let r = records::record_at(file, t.start + 16 * j);
+        count_children(&mut table, r);
+        j += 1;
+    }
+    table
+}
+
+// Counts the parameters that a record binds.
+fn count_params(table: &mut [u16], r: Record)
+    requires { ⌜ length (r .args) ≡ 8 ⌝ }
+    requires { ⌜ ((v : ℕ) → getD (now table) v 0 < 65000) ⌝ }
+    ensures { λ _. ⌜ ((v : ℕ) → v < length (now (table .entry)) → getD (now (table .exit)) v 0 ≡ getD (now (table .entry)) v 0 + paramTimes r v) ⌝ }
+{
+    let args = r.args;
+    let mut k: usize = 0;
+    while k < 8 {
+        add_if(table, (5 <= r.kind) & (k < r.arity), records::wide(args[k]));
+        k += 1;
+    }
+}
+
+// Counts the names that a record binds.
+fn count_names(table: &mut [u16], r: Record)
+    requires { ⌜ length (r .args) ≡ 8 ⌝ }
+    requires { ⌜ ((v : ℕ) → getD (now table) v 0 < 60000) ⌝ }
+    ensures { λ _. ⌜ ((v : ℕ) → v < length (now (table .entry)) → getD (now (table .exit)) v 0 ≡ getD (now (table .entry)) v 0 + times (binds (nodeOf r)) v) ⌝ }
+{
+    add_if(table, r.kind == 1, r.name);
+    count_params(table, r);
+}
+
+// How many times each name is bound: one mark for each of 256 names.
+fn count_binders(file: &[u8], t: Trailer) -> [u16; 256]
+    requires { ⌜ (t .start + 16 * t .nodes ≤ length (now file)) × (t .nodes ≤ 1024) ⌝ }
+    ensures { λ r. ⌜ ((v : ℕ) → v < 256 → getD r v 0 ≡ binders (arrayOf (now (file .entry)) t) v) ⌝ }
+{
+    let mut marks = [0u16; 256];
+    let mut j: usize = 0;
+    while j < t.nodes {
+        let r = records::record_at(file, t.start + 16 * j);
+        count_names(&mut marks, r);
+        j += 1;
+    }
+    marks
+}
+
+// A refusal at the first entry, from entry `from` on, that is not 1.
+fn first_not_one(number: u8, table: &[u16], from: usize, n: usize) -> Check
+    requires { ⌜ n ≤ length (now table) ⌝ }
+    ensures { λ r. ⌜ foundOf r ≡ first n (λ k. refuse number k (ltb k from || eqb (getD (now (table .entry)) k 0) 1)) ⌝ }
+{
+    let mut k: usize = 0;
+    while k < n {
+        if (from <= k) & (table[k] != 1) {
+            return Check::Refused(Refusal { number, place: k });
+        }
+        k += 1;
+    }
+    Check::Passed
+}
+
+// Refusal 9.
+pub fn bad_parent(file: &[u8], t: Trailer) -> Check
+    requires { ⌜ (t .start + 16 * t .nodes ≤ length (now file)) × (t .nodes ≤ 1024) ⌝ }
+    ensures { λ r. ⌜ foundOf r ≡ refusal9 (arrayOf (now (file .entry)) t) ⌝ }
+{
+    let table = count_fields(file, t);
+    first_not_one(9, &table, 1, t.nodes)
+}
+
+// Refusal 11.
+pub fn bad_binding(file: &[u8], t: Trailer) -> Check
+    requires { ⌜ (t .start + 16 * t .nodes ≤ length (now file)) × (t .nodes ≤ 1024) ⌝ }
+    requires { ⌜ t .names ≤ 256 ⌝ }
+    ensures { λ r. ⌜ foundOf r ≡ refusal11 (arrayOf (now (file .entry)) t) ⌝ }
+{
+    let marks = count_binders(file, t);
+    first_not_one(11, &marks, 0, t.names)
+}

@@ -1,0 +1,114 @@
+// The refusals that look at one record at a time: 6, 7, 8 and 10.
+// Promises refusal6 and refusal7 of specs/Fields, and the model's refusal8 and refusal10 of the array that the bytes stand for.
+// Depends on records, model and laws.
+ghost use mathlib.Core.Path.{_≡_};
+ghost use mathlib.Core.Bool.{_&&_, _||_};
+ghost use Prim.Native.Nat.{_+_, _*_, _≤_};
+ghost use lib.ListN.{length, getD};
+ghost use lib.Dec.{leb, ltb, eqb};
+ghost use Rattle.laws.specs.Search.{every};
+ghost use Rattle.records.specs.Record.{foundOf};
+ghost use Rattle.fields.specs.Fields.{shapeFits, unusedZero, childrenFit, namesFit, passes, firstBad};
+use records::Check;
+use records::Record;
+use records::Refusal;
+use records::Trailer;
+
+// Refusal 6 passes.
+fn shape_fits(r: Record) -> bool
+    ensures { λ b. ⌜ b ≡ shapeFits r ⌝ }
+{
+    (r.kind <= 6) & (r.arity <= 8) & ((4 <= r.kind) | (r.arity == 0))
+}
+
+// The argument bytes past the arity are zero.
+fn rest_zero(r: Record) -> bool
+    ensures { λ b. ⌜ b ≡ every 8 (λ k. ltb k (r .arity) || eqb (getD (r .args) k 0) 0) ⌝ }
+{
+    let args = r.args;
+    let mut k: usize = 0;
+    while k < 8 {
+        if (r.arity <= k) & (args[k] != 0) {
+            return false;
+        }
+        k += 1;
+    }
+    true
+}
+
+// Refusal 7 passes.
+fn unused_zero(r: Record) -> bool
+    ensures { λ b. ⌜ b ≡ unusedZero r ⌝ }
+{
+    let rest = rest_zero(r);
+    (r.pad == 0)
+        & ((r.kind != 0) | (r.left == 0))
+        & ((r.kind == 2) | (r.kind == 3) | (r.right == 0))
+        & ((r.kind == 1) | (4 <= r.kind) | (r.name == 0))
+        & rest
+}
+
+// Refusal 8 passes at node i of m.
+fn children_fit(m: usize, i: usize, r: Record) -> bool
+    ensures { λ b. ⌜ b ≡ childrenFit m i r ⌝ }
+{
+    ((r.kind == 0) | ((i < r.left) & (r.left < m)))
+        & (((r.kind != 2) & (r.kind != 3)) | ((i < r.right) & (r.right < m)))
+}
+
+// The arguments are names below n.
+fn args_below(n: usize, r: Record) -> bool
+    ensures { λ b. ⌜ b ≡ every 8 (λ k. leb (r .arity) k || ltb (getD (r .args) k 0) n) ⌝ }
+{
+    let args = r.args;
+    let mut k: usize = 0;
+    while k < 8 {
+        if (k < r.arity) & (n <= records::wide(args[k])) {
+            return false;
+        }
+        k += 1;
+    }
+    true
+}
+
+// Refusal 10 passes under n names.
+fn names_fit(n: usize, r: Record) -> bool
+    requires { ⌜ length (r .args) ≡ 8 ⌝ }
+    ensures { λ b. ⌜ b ≡ namesFit n r ⌝ }
+{
+    let below = args_below(n, r);
+    ((r.kind != 1) | (r.name < n)) & ((r.kind < 4) | ((r.name < n) & below))
+}
+
+// Refusal 6, 7, 8 or 10 passes at node i.
+fn node_passes(number: u8, t: Trailer, i: usize, r: Record) -> bool
+    requires { ⌜ length (r .args) ≡ 8 ⌝ }
+    ensures { λ b. ⌜ b ≡ passes number t i r ⌝ }
+{
+    if number == 6 {
+        return shape_fits(r);
+    }
+    if number == 7 {
+        return unused_zero(r);
+    }
+    if number == 8 {
+        return children_fit(t.nodes, i, r);
+    }
+    names_fit(t.names, r)
+}
+
+// Refusal 6, 7, 8 or 10 at the first node that it names.
+pub fn first_bad(number: u8, file: &[u8], t: Trailer) -> Check
+    requires { ⌜ t .start + 16 * t .nodes ≤ length (now file) ⌝ }
+    ensures { λ r. ⌜ foundOf r ≡ firstBad number (now (file .entry)) t ⌝ }
+{
+    let mut i: usize = 0;
+    while i < t.nodes {
+        let r = records::record_at(file, t.start + 16 * i);
+        if !node_passes(number, t, i, r) {
+            return Check::Refused(Refusal { number, place: i });
+        }
+        i += 1;
+    }
+    Check::Passed
+}

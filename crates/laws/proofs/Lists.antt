@@ -1,0 +1,154 @@
+-- The laws of `All`, `all`, `has` and `times`.
+use Prim.Native.Nat.{ℕ, zero, suc, _+_, _≤_, _<_, zero-le}
+use native.Mathlib.Nat.{not-suc-le-zero, le-of-suc-le-suc}
+use native.Mathlib.Omega.{arith}
+use mathlib.Core.Path.{_≡_, refl, sym, ap, _∙_}
+use mathlib.Core.Logic.{_⊎_, inl, inr, ⊎-elim}
+use mathlib.Core.Bool.{Bool, true, false, cond, _&&_, _||_, false≢true}
+use mathlib.Core.List.{List, [], _∷_, _++_, map}
+use lib.Dec.{eqb, leb, ltb, leb·suc-zero, leb·suc-suc}
+use lib.ListN.{length, getD, take}
+use lib.Seq.{take-nil}
+use borrow.Author.Tests.{eqb-true, eq-eqb, le-leb, lt-ltb, le-ltb}
+use Rattle.laws.specs.Search.{every, any, sum}
+use Rattle.laws.specs.Lists.{All, one, all, has, times}
+use Rattle.laws.proofs.Search.{and-split, and-join, or-split, or-right, true-every, every-same, every-cons, any-same, any-cons, sum-same, sum-cons}
+
+-- ---- a statement of every element
+
+pub All-append : {A : Type 0} (P : A → Type 0) (xs ys : List A) → All P xs → All P ys → All P (xs ++ ys)
+All-append P [] ys h k = k
+All-append P (x ∷ xs) ys h k = (h .0, All-append P xs ys (h .1) k)
+
+pub All-getD : {A : Type 0} (P : A → Type 0) (xs : List A) (i : ℕ) (d : A) → All P xs → i < length xs → P (getD xs i d)
+All-getD P [] i d h k = absurd (not-suc-le-zero k)
+All-getD P (x ∷ xs) zero d h k = h .0
+All-getD P (x ∷ xs) (suc i) d h k = All-getD P xs i d (h .1) (le-of-suc-le-suc k)
+
+-- where the default meets it too, any position does
+pub All-at : {A : Type 0} (P : A → Type 0) (xs : List A) (i : ℕ) (d : A) → P d → All P xs → P (getD xs i d)
+All-at P [] i d h k = h
+All-at P (x ∷ xs) zero d h k = k .0
+All-at P (x ∷ xs) (suc i) d h k = All-at P xs i d h (k .1)
+
+pub All-map : {A : Type 0} {P Q : A → Type 0} → ((x : A) → P x → Q x) → (xs : List A) → All P xs → All Q xs
+All-map f [] h = tt
+All-map f (x ∷ xs) h = (f x (h .0), All-map f xs (h .1))
+
+pub getD-map : {A B : Type 0} (f : A → B) (xs : List A) (n : ℕ) (d : A) (e : B) → n < length xs → getD (map f xs) n e ≡ f (getD xs n d)
+getD-map f [] n d e h = absurd (not-suc-le-zero h)
+getD-map f (x ∷ xs) zero d e h = refl
+getD-map f (x ∷ xs) (suc n) d e h = getD-map f xs n d e (le-of-suc-le-suc h)
+
+-- ---- tests of a list of numbers
+
+-- 1 exactly where the test passes
+pub one-true : (b : Bool) → 1 ≤ one b → b ≡ true
+unfolding one
+one-true true h = refl
+one-true false h = absurd (not-suc-le-zero h)
+
+pub true-one : (b : Bool) → b ≡ true → one b ≡ 1
+unfolding one
+true-one b e = rw (e, one)
+
+pub one-le : (b : Bool) → one b ≤ 1
+unfolding one
+one-le true = omega arith
+one-le false = omega arith
+
+pub all-true : (f : ℕ → Bool) (xs : List ℕ) → all f xs ≡ true → All (λ x. f x ≡ true) xs
+unfolding all
+all-true f [] e = tt
+all-true f (x ∷ xs) e = let s = and-split (f x) (all f xs) e in (s .0, all-true f xs (s .1))
+
+-- a test that passes at every number of a list passes at one that stands there
+pub all-has : (f : ℕ → Bool) (xs : List ℕ) (v : ℕ) → all f xs ≡ true → has xs v ≡ true → f v ≡ true
+unfolding all has
+all-has f [] v e h = absurd (false≢true h)
+all-has f (x ∷ xs) v e h =
+    let s = and-split (f x) (all f xs) e in
+    ⊎-elim (λ (k : eqb v x ≡ true). rw (eqb-true v x k) (s .0)) (λ (k : has xs v ≡ true). all-has f xs v (s .1) k) (or-split (eqb v x) (has xs v) h)
+
+pub has-all : (f : ℕ → Bool) (xs : List ℕ) → ((v : ℕ) → has xs v ≡ true → f v ≡ true) → all f xs ≡ true
+unfolding all has
+has-all f [] h = refl
+has-all f (x ∷ xs) h =
+    and-join (h x (rw (eq-eqb x x refl))) (has-all f xs (λ v k. h v (or-right (eqb v x) (has xs v) k)))
+
+pub has-here : (x : ℕ) (xs : List ℕ) → has (x ∷ xs) x ≡ true
+unfolding has
+has-here x xs = rw (eq-eqb x x refl)
+
+pub has-later : (x : ℕ) (xs : List ℕ) (v : ℕ) → has xs v ≡ true → has (x ∷ xs) v ≡ true
+unfolding has
+has-later x xs v e = or-right (eqb v x) (has xs v) e
+
+pub has-getD : (xs : List ℕ) (n d : ℕ) → n < length xs → has xs (getD xs n d) ≡ true
+has-getD [] n d h = absurd (not-suc-le-zero h)
+has-getD (x ∷ xs) zero d h = has-here x xs
+has-getD (x ∷ xs) (suc n) d h = has-later x xs (getD xs n d) (has-getD xs n d (le-of-suc-le-suc h))
+
+-- a number stands in a list exactly where it stands there at least once
+pub has-times : (xs : List ℕ) (v : ℕ) → has xs v ≡ true → 1 ≤ times xs v
+unfolding has times
+has-times [] v e = absurd (false≢true e)
+has-times (x ∷ xs) v e =
+    ⊎-elim (λ (k : eqb v x ≡ true). let z = true-one (eqb v x) k in let y : 1 ≤ one (eqb v x) + times xs v = omega arith in y)
+    (λ (k : has xs v ≡ true). let z = has-times xs v k in let y : 1 ≤ one (eqb v x) + times xs v = omega arith in y) (or-split (eqb v x) (has xs v) e)
+
+pub times-has : (xs : List ℕ) (v : ℕ) → 1 ≤ times xs v → has xs v ≡ true
+unfolding has times
+times-has [] v h = absurd (not-suc-le-zero h)
+times-has (x ∷ xs) v h = go (one (eqb v x)) refl (λ k. times-has xs v k)
+  where
+    go : (n : ℕ) → one (eqb v x) ≡ n → (1 ≤ times xs v → has xs v ≡ true) → eqb v x || has xs v ≡ true
+    go zero e ih = or-right (eqb v x) (has xs v) (ih (omega arith))
+    go (suc n) e ih = rw (one-true (eqb v x) (omega arith))
+
+pub times-le : (xs : List ℕ) (v : ℕ) → times xs v ≤ length xs
+unfolding times
+times-le [] v = zero-le
+times-le (x ∷ xs) v = omega (arith, one-le (eqb v x), times-le xs v)
+
+-- ---- the front of a list, by position: as a loop over all positions finds it
+
+module _ (f : ℕ → Bool) (d : ℕ) where
+  pub all-take : (xs : List ℕ) (n : ℕ) → all f (take n xs) ≡ every (length xs) (λ k. leb n k || f (getD xs k d))
+  unfolding all every
+  all-take [] n = ap (all f) (take-nil n)
+  all-take (x ∷ xs) zero = sym (true-every (suc (length xs)) _ (λ k h. rw (le-leb 0 k zero-le)))
+  all-take (x ∷ xs) (suc n) =
+      ap (λ (b : Bool). f x && b) (all-take xs n)
+      ∙ ap (λ (b : Bool). f x && b) (every-same (length xs) _ _ (λ k h. ap (λ (b : Bool). b || f (getD xs k d)) (sym (leb·suc-suc n k))))
+      ∙ ap (λ (b : Bool). (b || f x) && every (length xs) (λ k. leb (suc n) (suc k) || f (getD xs k d))) (sym (leb·suc-zero n))
+      ∙ sym (every-cons (length xs) (λ k. leb (suc n) k || f (getD (x ∷ xs) k d)))
+
+module _ (v d : ℕ) where
+  pub has-take : (xs : List ℕ) (n : ℕ) → has (take n xs) v ≡ any (length xs) (λ k. ltb k n && eqb v (getD xs k d))
+  unfolding has any
+  has-take [] n = ap (λ (l : List ℕ). has l v) (take-nil n)
+  has-take (x ∷ xs) zero = sym (none (suc (length xs)) (λ k. eqb v (getD (x ∷ xs) k d)))
+    where
+      none : (m : ℕ) (g : ℕ → Bool) → any m (λ k. ltb k 0 && g k) ≡ false
+      none zero g = refl
+      none (suc m) g = rw (none m g, le-ltb m 0 zero-le)
+  has-take (x ∷ xs) (suc n) =
+      ap (λ (b : Bool). eqb v x || b) (has-take xs n)
+      ∙ ap (λ (b : Bool). eqb v x || b) (any-same (length xs) _ _ (λ k h. ap (λ (b : Bool). b && eqb v (getD xs k d)) (sym (leb·suc-suc (suc k) n))))
+      ∙ ap (λ (b : Bool). (b && eqb v x) || any (length xs) (λ k. ltb (suc k) (suc n) && eqb v (getD xs k d))) (sym (lt-ltb 0 (suc n) (omega arith)))
+      ∙ sym (any-cons (length xs) (λ k. ltb k (suc n) && eqb v (getD (x ∷ xs) k d)))
+
+  pub times-take : (xs : List ℕ) (n : ℕ) → times (take n xs) v ≡ sum (length xs) (λ k. one (ltb k n && eqb v (getD xs k d)))
+  unfolding times sum one
+  times-take [] n = ap (λ (l : List ℕ). times l v) (take-nil n)
+  times-take (x ∷ xs) zero = sym (none (suc (length xs)) (λ k. eqb v (getD (x ∷ xs) k d)))
+    where
+      none : (m : ℕ) (g : ℕ → Bool) → sum m (λ k. one (ltb k 0 && g k)) ≡ 0
+      none zero g = refl
+      none (suc m) g = rw (none m g, le-ltb m 0 zero-le)
+  times-take (x ∷ xs) (suc n) =
+      ap (λ (m : ℕ). one (eqb v x) + m) (times-take xs n)
+      ∙ ap (λ (m : ℕ). one (eqb v x) + m) (sum-same (length xs) _ _ (λ k h. ap (λ (b : Bool). one (b && eqb v (getD xs k d))) (sym (leb·suc-suc (suc k) n))))
+      ∙ ap (λ (b : Bool). one (b && eqb v x) + sum (length xs) (λ k. one (ltb (suc k) (suc n) && eqb v (getD xs k d)))) (sym (lt-ltb 0 (suc n) (omega arith)))
+      ∙ sym (sum-cons (length xs) (λ k. one (ltb k (suc n) && eqb v (getD (x ∷ xs) k d))))

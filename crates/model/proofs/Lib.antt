@@ -1,0 +1,12 @@
+pub mod Tree
+pub mod Nodes
+pub mod Reach
+pub mod Closed
+pub mod Verdict
+pub mod Threads
+pub mod Stepped
+pub mod Safety
+pub mod Natural
+pub mod Markers
+pub mod Decoded
+pub mod Cases

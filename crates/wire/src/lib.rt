@@ -1,0 +1,49 @@
+// Little-endian numbers in a slice of bytes, and the word sum of a file.
+// Promises equations with specs/Numbers. Depends on nothing.
+ghost use mathlib.Core.Path.{_≡_};
+ghost use Prim.Native.Nat.{_+_, _*_, _<_, _≤_};
+ghost use lib.ListN.{length};
+ghost use Rattle.wire.specs.Numbers.{u16At, u32At, wordSum};
+
+// A byte as a wider number.
+fn wide(x: u8) -> u32
+    ensures { λ r. ⌜ (r ≡ x) × (r < 256) ⌝ }
+{
+    x as u32
+}
+
+// The 16-bit number at `at`.
+pub fn u16_at(s: &[u8], at: usize) -> usize
+    requires { ⌜ at + 1 < length (now s) ⌝ }
+    ensures { λ r. ⌜ r ≡ u16At (now (s .entry)) at ⌝ }
+{
+    let low = wide(s[at]);
+    let high = wide(s[at + 1]);
+    (low + 256 * high) as usize
+}
+
+// The 32-bit number at `at`.
+pub fn u32_at(s: &[u8], at: usize) -> u32
+    requires { ⌜ at + 3 < length (now s) ⌝ }
+    ensures { λ r. ⌜ r ≡ u32At (now (s .entry)) at ⌝ }
+{
+    let b0 = wide(s[at]);
+    let b1 = wide(s[at + 1]);
+    let b2 = wide(s[at + 2]);
+    let b3 = wide(s[at + 3]);
+    b0 + 256 * b1 + 65536 * b2 + 16777216 * b3
+}
+
+// The sum of the first `words` 32-bit words, which wraps at 2^32.
+pub fn word_sum(s: &[u8], words: usize) -> u32
+    requires { ⌜ 4 * words ≤ length (now s) ⌝ }
+    ensures { λ r. ⌜ r ≡ wordSum (now (s .entry)) words ⌝ }
+{
+    let mut sum: u32 = 0;
+    let mut i: usize = 0;
+    while i < words {
+        sum = std::num::wrapping_add_u32(sum, u32_at(s, 4 * i));
+        i += 1;
+    }
+    sum
+}
