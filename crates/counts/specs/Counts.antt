@@ -1,18 +1,21 @@
--- What the counting tables hold.
-use Prim.Native.Nat.{ℕ, _+_}
-use mathlib.Core.Bool.{Bool, true, false, _&&_}
-use mathlib.Core.List.{List}
-use lib.Dec.{eqb, leb, ltb}
-use lib.ListN.{getD, set}
-use Rattle.laws.specs.Search.{sum}
-use Rattle.laws.specs.Lists.{one}
+-- What the counting tables hold: how a table grows, and how large its entries are.
+use Prim.Native.Nat.{ℕ, _+_, _<_}
+use mathlib.Core.Path.{_≡_}
+use mathlib.Core.Bool.{cond}
+use mathlib.Core.List.{List, []}
+use lib.Dec.{leb}
+use lib.ListN.{length, getD}
+use Rattle.records.specs.Record.{argsOf}
 use Rattle.records.specs.declared.Record.{Record}
 
--- entry `at` is one more where the test is true
-unfoldable pub addIf : List ℕ → Bool → ℕ → List ℕ
-addIf t true at = set t at (getD t at 0 + 1)
-addIf t false at = t
+-- each entry v of table t is more by f v in table u
+abbrev pub Grown : List ℕ → List ℕ → (ℕ → ℕ) → Type 0
+Grown t u f = (v : ℕ) → v < length t → getD u v 0 ≡ getD t v 0 + f v
 
--- how often name v is a parameter of a record: kinds 5 and up, and as many argument bytes as the arity says
-unfoldable pub paramTimes : Record → ℕ → ℕ
-paramTimes r v = sum 8 λ k. one ((leb 5 (r .kind) && ltb k (r .arity)) && eqb v (getD (r .args) k 0))
+-- each entry of a table is below b
+abbrev pub Below : List ℕ → ℕ → Type 0
+Below t b = (v : ℕ) → getD t v 0 < b
+
+-- the parameters that a record binds: kinds 5 and up are in and resource
+abbrev pub paramsOf : Record → List ℕ
+paramsOf r = cond (leb 5 (r .kind)) (argsOf r) []

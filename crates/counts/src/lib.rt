@@ -9,7 +9,7 @@ ghost use Rattle.laws.specs.Search.{first};
 ghost use Rattle.laws.specs.Lists.{times, one};
 ghost use Rattle.model.specs.Formed.{refuse, children, binds, fieldsTo, binders, refusal9, refusal11};
 ghost use Rattle.records.specs.Record.{nodeOf, arrayOf, foundOf};
-ghost use Rattle.counts.specs.Counts.{addIf, paramTimes};
+ghost use Rattle.counts.specs.Counts.{Grown, Below, paramsOf};
 use records::Check;
 use records::Record;
 use records::Refusal;
@@ -18,7 +18,7 @@ use records::Trailer;
 // Adds one to an entry where `on` is true. An entry past the end is none.
 fn add_if(table: &mut [u16], on: bool, at: usize)
     requires { ⌜ getD (now table) at 0 < 65535 ⌝ }
-    ensures { λ _. ⌜ now (table .exit) ≡ addIf (now (table .entry)) on at ⌝ }
+    ensures { λ _. ⌜ Grown (now (table .entry)) (now (table .exit)) (λ v. one (on && eqb v at)) ⌝ }
 {
     if on {
         if at < table.len() {
@@ -29,8 +29,8 @@ fn add_if(table: &mut [u16], on: bool, at: usize)
 
 // Counts the children that a record names.
 fn count_children(table: &mut [u16], r: Record)
-    requires { ⌜ ((v : ℕ) → getD (now table) v 0 < 65000) ⌝ }
-    ensures { λ _. ⌜ ((v : ℕ) → v < length (now (table .entry)) → getD (now (table .exit)) v 0 ≡ getD (now (table .entry)) v 0 + times (children (nodeOf r)) v) ⌝ }
+    requires { ⌜ Below (now table) 65000 ⌝ }
+    ensures { λ _. ⌜ Grown (now (table .entry)) (now (table .exit)) (times (children (nodeOf r))) ⌝ }
 {
     add_if(table, 0 < r.kind, r.left);
     add_if(table, (r.kind == 2) | (r.kind == 3), r.right);
@@ -53,9 +53,8 @@ fn count_fields(file: &[u8], t: Trailer) -> [u16; 1024]
 
 // Counts the parameters that a record binds.
 fn count_params(table: &mut [u16], r: Record)
-    requires { ⌜ length (r .args) ≡ 8 ⌝ }
-    requires { ⌜ ((v : ℕ) → getD (now table) v 0 < 65000) ⌝ }
-    ensures { λ _. ⌜ ((v : ℕ) → v < length (now (table .entry)) → getD (now (table .exit)) v 0 ≡ getD (now (table .entry)) v 0 + paramTimes r v) ⌝ }
+    requires { ⌜ Below (now table) 65000 ⌝ }
+    ensures { λ _. ⌜ Grown (now (table .entry)) (now (table .exit)) (times (paramsOf r)) ⌝ }
 {
     let args = r.args;
     let mut k: usize = 0;
@@ -67,9 +66,8 @@ fn count_params(table: &mut [u16], r: Record)
 
 // Counts the names that a record binds.
 fn count_names(table: &mut [u16], r: Record)
-    requires { ⌜ length (r .args) ≡ 8 ⌝ }
-    requires { ⌜ ((v : ℕ) → getD (now table) v 0 < 60000) ⌝ }
-    ensures { λ _. ⌜ ((v : ℕ) → v < length (now (table .entry)) → getD (now (table .exit)) v 0 ≡ getD (now (table .entry)) v 0 + times (binds (nodeOf r)) v) ⌝ }
+    requires { ⌜ Below (now table) 60000 ⌝ }
+    ensures { λ _. ⌜ Grown (now (table .entry)) (now (table .exit)) (times (binds (nodeOf r))) ⌝ }
 {
     add_if(table, r.kind == 1, r.name);
     count_params(table, r);
@@ -97,7 +95,7 @@ fn first_not_one(number: u8, table: &[u16], from: usize, n: usize) -> Check
 {
     let mut k: usize = 0;
     while k < n {
-        if (from <= k) & (table[k] != 1) {
+        if !((k < from) | (table[k] == 1)) {
             return Check::Refused(Refusal { number, place: k });
         }
         k += 1;

@@ -17,6 +17,10 @@ use Rattle.records.specs.Record.{nodeOf, recordOf}
 abbrev pub shapeFits : Record → Bool
 shapeFits r = leb (r .kind) 6 && leb (r .arity) 8 && (leb 4 (r .kind) || eqb (r .arity) 0)
 
+-- argument byte k is zero, or the arity says that it is used
+abbrev pub restZero : Record → ℕ → Bool
+restZero r k = ltb k (r .arity) || eqb (getD (r .args) k 0) 0
+
 -- "7. An unused field isn't zero (node)." Every kind but stop uses its left child; par and choice their right child; a new and
 -- the agents their name; agents as many arguments as their arity says.
 abbrev pub unusedZero : Record → Bool
@@ -25,7 +29,7 @@ unusedZero r =
     && (not (eqb (r .kind) 0) || eqb (r .left) 0)
     && (eqb (r .kind) 2 || eqb (r .kind) 3 || eqb (r .right) 0)
     && (eqb (r .kind) 1 || leb 4 (r .kind) || eqb (r .name) 0)
-    && every 8 (λ k. ltb k (r .arity) || eqb (getD (r .args) k 0) 0)
+    && every 8 (restZero r)
 
 -- 8 and 10 at one node, as the model has them
 unfoldable pub childrenFit : ℕ → ℕ → Record → Bool
@@ -34,6 +38,10 @@ childrenFit m i r = all (childFits m i) (children (nodeOf r))
 unfoldable pub namesFit : ℕ → Record → Bool
 namesFit n r = all (λ v. ltb v n) (uses (nodeOf r) ++ binds (nodeOf r))
 
+-- for 10, by positions: argument byte k is a name below n, or the arity says that it is not used
+abbrev pub argBelow : ℕ → Record → ℕ → Bool
+argBelow n r k = leb (r .arity) k || ltb (getD (r .args) k 0) n
+
 -- the test of refusal 6, 7, 8 or 10, by its number
 abbrev pub passes : ℕ → Trailer → ℕ → Record → Bool
 passes number t i r =
@@ -41,9 +49,12 @@ passes number t i r =
     (cond (eqb number 7) (unusedZero r)
     (cond (eqb number 8) (childrenFit (t .nodes) i r) (namesFit (t .names) r)))
 
--- that refusal at its lowest node
+-- that refusal at node i, and at its lowest node
+unfoldable pub badAt : ℕ → List ℕ → Trailer → ℕ → Found Refusal
+badAt number s t i = refuse number i (passes number t i (recordOf s t i))
+
 unfoldable pub firstBad : ℕ → List ℕ → Trailer → Found Refusal
-firstBad number s t = first (t .nodes) λ i. refuse number i (passes number t i (recordOf s t i))
+firstBad number s t = first (t .nodes) (badAt number s t)
 
 -- "6." and "7." over the whole array; 8 to 12 are the model's
 unfoldable pub refusal6 : List ℕ → Trailer → Found Refusal

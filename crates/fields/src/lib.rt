@@ -2,13 +2,11 @@
 // Promises refusal6 and refusal7 of specs/Fields, and the model's refusal8 and refusal10 of the array that the bytes stand for.
 // Depends on records, model and laws.
 ghost use mathlib.Core.Path.{_≡_};
-ghost use mathlib.Core.Bool.{_&&_, _||_};
 ghost use Prim.Native.Nat.{_+_, _*_, _≤_};
-ghost use lib.ListN.{length, getD};
-ghost use lib.Dec.{leb, ltb, eqb};
+ghost use lib.ListN.{length};
 ghost use Rattle.laws.specs.Search.{every};
 ghost use Rattle.records.specs.Record.{foundOf};
-ghost use Rattle.fields.specs.Fields.{shapeFits, unusedZero, childrenFit, namesFit, passes, firstBad};
+ghost use Rattle.fields.specs.Fields.{shapeFits, restZero, unusedZero, childrenFit, argBelow, namesFit, passes, firstBad};
 use records::Check;
 use records::Record;
 use records::Refusal;
@@ -23,29 +21,27 @@ fn shape_fits(r: Record) -> bool
 
 // The argument bytes past the arity are zero.
 fn rest_zero(r: Record) -> bool
-    ensures { λ b. ⌜ b ≡ every 8 (λ k. ltb k (r .arity) || eqb (getD (r .args) k 0) 0) ⌝ }
+    ensures { λ b. ⌜ b ≡ every 8 (restZero r) ⌝ }
 {
     let args = r.args;
+    let mut zero = true;
     let mut k: usize = 0;
     while k < 8 {
-        if (r.arity <= k) & (args[k] != 0) {
-            return false;
-        }
+        zero = zero & ((k < r.arity) | (args[k] == 0));
         k += 1;
     }
-    true
+    zero
 }
 
 // Refusal 7 passes.
 fn unused_zero(r: Record) -> bool
     ensures { λ b. ⌜ b ≡ unusedZero r ⌝ }
 {
-    let rest = rest_zero(r);
     (r.pad == 0)
         & ((r.kind != 0) | (r.left == 0))
         & ((r.kind == 2) | (r.kind == 3) | (r.right == 0))
         & ((r.kind == 1) | (4 <= r.kind) | (r.name == 0))
-        & rest
+        & rest_zero(r)
 }
 
 // Refusal 8 passes at node i of m.
@@ -58,31 +54,27 @@ fn children_fit(m: usize, i: usize, r: Record) -> bool
 
 // The arguments are names below n.
 fn args_below(n: usize, r: Record) -> bool
-    ensures { λ b. ⌜ b ≡ every 8 (λ k. leb (r .arity) k || ltb (getD (r .args) k 0) n) ⌝ }
+    ensures { λ b. ⌜ b ≡ every 8 (argBelow n r) ⌝ }
 {
     let args = r.args;
+    let mut below = true;
     let mut k: usize = 0;
     while k < 8 {
-        if (k < r.arity) & (n <= records::wide(args[k])) {
-            return false;
-        }
+        below = below & ((r.arity <= k) | (records::wide(args[k]) < n));
         k += 1;
     }
-    true
+    below
 }
 
 // Refusal 10 passes under n names.
 fn names_fit(n: usize, r: Record) -> bool
-    requires { ⌜ length (r .args) ≡ 8 ⌝ }
     ensures { λ b. ⌜ b ≡ namesFit n r ⌝ }
 {
-    let below = args_below(n, r);
-    ((r.kind != 1) | (r.name < n)) & ((r.kind < 4) | ((r.name < n) & below))
+    ((r.kind != 1) | (r.name < n)) & ((r.kind < 4) | ((r.name < n) & args_below(n, r)))
 }
 
 // Refusal 6, 7, 8 or 10 passes at node i.
 fn node_passes(number: u8, t: Trailer, i: usize, r: Record) -> bool
-    requires { ⌜ length (r .args) ≡ 8 ⌝ }
     ensures { λ b. ⌜ b ≡ passes number t i r ⌝ }
 {
     if number == 6 {

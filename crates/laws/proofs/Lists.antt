@@ -2,17 +2,17 @@
 use Prim.Native.Nat.{ℕ, zero, suc, _+_, _≤_, _<_, zero-le}
 use native.Mathlib.Nat.{not-suc-le-zero, le-of-suc-le-suc}
 use native.Mathlib.Omega.{arith}
-use mathlib.Core.Path.{_≡_, refl, sym, ap, _∙_}
+use mathlib.Core.Path.{_≡_, refl, sym, ap, ap₂, _∙_}
 use mathlib.Core.Logic.{_⊎_, inl, inr, ⊎-elim}
 use mathlib.Core.Bool.{Bool, true, false, cond, _&&_, _||_, false≢true}
 use mathlib.Core.List.{List, [], _∷_, _++_, map}
 use lib.Dec.{eqb, leb, ltb, leb·suc-zero, leb·suc-suc}
-use lib.ListN.{length, getD, take}
-use lib.Seq.{take-nil}
-use borrow.Author.Tests.{eqb-true, eq-eqb, le-leb, lt-ltb, le-ltb}
+use lib.ListN.{length, getD, take, drop, set, replicate}
+use lib.Seq.{take-nil, getD-set-same, getD-set-other}
+use borrow.Author.Tests.{eqb-true, eqb-false, eq-eqb, le-leb, lt-ltb, le-ltb}
 use Rattle.laws.specs.Search.{every, any, sum}
 use Rattle.laws.specs.Lists.{All, one, all, has, times}
-use Rattle.laws.proofs.Search.{and-split, and-join, or-split, or-right, true-every, every-same, every-cons, any-same, any-cons, sum-same, sum-cons}
+use Rattle.laws.proofs.Search.{decided, and-split, and-join, or-split, or-right, true-every, every-same, every-cons, any-same, any-cons, sum-same, sum-cons}
 
 -- ---- a statement of every element
 
@@ -39,6 +39,33 @@ pub getD-map : {A B : Type 0} (f : A → B) (xs : List A) (n : ℕ) (d : A) (e :
 getD-map f [] n d e h = absurd (not-suc-le-zero h)
 getD-map f (x ∷ xs) zero d e h = refl
 getD-map f (x ∷ xs) (suc n) d e h = getD-map f xs n d e (le-of-suc-le-suc h)
+
+pub All-drop : {A : Type 0} (P : A → Type 0) (n : ℕ) (xs : List A) → All P xs → All P (drop n xs)
+All-drop P zero xs h = h
+All-drop P (suc n) [] h = tt
+All-drop P (suc n) (x ∷ xs) h = All-drop P n xs (h .1)
+
+pub All-take : {A : Type 0} (P : A → Type 0) (n : ℕ) (xs : List A) → All P xs → All P (take n xs)
+All-take P zero xs h = tt
+All-take P (suc n) [] h = tt
+All-take P (suc n) (x ∷ xs) h = (h .0, All-take P n xs (h .1))
+
+pub getD-All : {A : Type 0} (P : A → Type 0) (xs : List A) (d : A) → ((k : ℕ) → P (getD xs k d)) → All P xs
+getD-All P [] d h = tt
+getD-All P (x ∷ xs) d h = (h 0, getD-All P xs d (λ k. h (suc k)))
+
+-- the word at k after a store at i
+pub getD-set : (l : List ℕ) (i a k d : ℕ) → i < length l → getD (set l i a) k d ≡ cond (eqb k i) a (getD l k d)
+getD-set l i a k d h = go (decided (eqb k i))
+  where
+    go : (eqb k i ≡ true) ⊎ (eqb k i ≡ false) → getD (set l i a) k d ≡ cond (eqb k i) a (getD l k d)
+    go (inl e) = rw (e, eqb-true k i e) (getD-set-same l i a d h)
+    go (inr e) = rw e (getD-set-other l i k a d (eqb-false k i e))
+
+pub getD-zeros : (n k : ℕ) → getD {A = ℕ} (replicate n 0) k 0 ≡ 0
+getD-zeros zero k = refl
+getD-zeros (suc n) zero = refl
+getD-zeros (suc n) (suc k) = getD-zeros n k
 
 -- ---- tests of a list of numbers
 
@@ -69,6 +96,11 @@ all-has f [] v e h = absurd (false≢true h)
 all-has f (x ∷ xs) v e h =
     let s = and-split (f x) (all f xs) e in
     ⊎-elim (λ (k : eqb v x ≡ true). rw (eqb-true v x k) (s .0)) (λ (k : has xs v ≡ true). all-has f xs v (s .1) k) (or-split (eqb v x) (has xs v) h)
+
+pub all-same : (P : ℕ → Type 0) (f g : ℕ → Bool) (xs : List ℕ) → All P xs → ((v : ℕ) → P v → f v ≡ g v) → all f xs ≡ all g xs
+unfolding all
+all-same P f g [] h e = refl
+all-same P f g (x ∷ xs) h e = ap₂ _&&_ (e x (h .0)) (all-same P f g xs (h .1) e)
 
 pub has-all : (f : ℕ → Bool) (xs : List ℕ) → ((v : ℕ) → has xs v ≡ true → f v ≡ true) → all f xs ≡ true
 unfolding all has

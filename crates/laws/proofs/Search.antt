@@ -1,12 +1,13 @@
 -- The laws of tests, searches and sums: what a search that finds nothing says, what one that finds something says,
 -- and how a loop that counts up builds one.
 use Prim.Native.Nat.{ℕ, zero, suc, _+_, _*_, _≤_, _<_, zero-le}
-use native.Mathlib.Nat.{eq-or-lt-of-le, not-suc-le-zero, le-of-suc-le-suc, mul-suc, add-le-add}
+use native.Mathlib.Nat.{eq-or-lt-of-le, not-suc-le-zero, le-of-suc-le-suc, add-zero, add-suc, mul-zero, mul-suc, add-le-add, zero-mul, add-mul}
 use native.Mathlib.Numerals.{add-one}
 use native.Mathlib.Omega.{arith}
 use mathlib.Core.Path.{_≡_, refl, sym, ap, ap₂, _∙_}
 use mathlib.Core.Logic.{_⊎_, inl, inr, _≢_, ⊎-elim}
-use mathlib.Core.Bool.{Bool, true, false, not, _&&_, _||_, false≢true, true≢false}
+use mathlib.Core.Bool as B
+use mathlib.Core.Bool.{Bool, true, false, not, _&&_, _||_, and-true, and-false, and-assoc, or-assoc, and-or-distrib-left, false≢true, true≢false}
 use Rattle.laws.specs.Search.{Found, clear, hit, test, andThen, under, first, every, any, sum}
 
 -- ---- tests
@@ -258,6 +259,54 @@ any-cons (suc n) f = ap (λ (b : Bool). b || f (suc n)) (any-cons n f) ∙ go (f
     go true b c = refl
     go false b c = refl
 
+-- a test that does not depend on the number
+pub any-under : (n : ℕ) (b : Bool) (f : ℕ → Bool) → any n (λ k. b && f k) ≡ b && any n f
+unfolding any
+any-under zero b f = sym (and-false b)
+any-under (suc n) b f = ap (λ (c : Bool). c || (b && f n)) (any-under n b f) ∙ sym (and-or-distrib-left b (any n f) (f n))
+
+-- a test that passes nowhere
+pub any-false : (n : ℕ) (f : ℕ → Bool) → any n f ≡ false → (j : ℕ) → j < n → f j ≡ false
+unfolding any
+any-false zero f e j h = absurd (not-suc-le-zero h)
+any-false (suc n) f e j h =
+    let s = or-false (any n f) (f n) e in
+    ⊎-elim (λ (q : j ≡ n). rw q (s .1)) (λ (k : j < n). any-false n f (s .0) j k) (eq-or-lt-of-le (le-of-suc-le-suc h))
+
+-- the first m numbers apart from the others
+pub every-split : (m n : ℕ) (f : ℕ → Bool) → every (m + n) f ≡ every m f && every n (λ k. f (m + k))
+unfolding every
+every-split m zero f = ap (λ (k : ℕ). every k f) (add-zero m) ∙ sym (and-true (every m f))
+every-split m (suc n) f =
+    ap (λ (k : ℕ). every k f) (add-suc m n)
+    ∙ ap (λ (b : Bool). b && f (m + n)) (every-split m n f)
+    ∙ and-assoc (every m f) (every n (λ k. f (m + k))) (f (m + n))
+
+pub any-split : (m n : ℕ) (f : ℕ → Bool) → any (m + n) f ≡ any m f || any n (λ k. f (m + k))
+unfolding any
+any-split m zero f = ap (λ (k : ℕ). any k f) (add-zero m) ∙ sym (B.or-false (any m f))
+any-split m (suc n) f =
+    ap (λ (k : ℕ). any k f) (add-suc m n)
+    ∙ ap (λ (b : Bool). b || f (m + n)) (any-split m n f)
+    ∙ or-assoc (any m f) (any n (λ k. f (m + k))) (f (m + n))
+
+-- n blocks of m numbers each
+pub every-blocks : (m n : ℕ) (f : ℕ → Bool) → every (m * n) f ≡ every n (λ j. every m (λ k. f (m * j + k)))
+unfolding every
+every-blocks m zero f = ap (λ (k : ℕ). every k f) (mul-zero m)
+every-blocks m (suc n) f =
+    ap (λ (k : ℕ). every k f) (mul-suc m n)
+    ∙ every-split (m * n) m f
+    ∙ ap (λ (b : Bool). b && every m (λ k. f (m * n + k))) (every-blocks m n f)
+
+pub any-blocks : (m n : ℕ) (f : ℕ → Bool) → any (m * n) f ≡ any n (λ j. any m (λ k. f (m * j + k)))
+unfolding any
+any-blocks m zero f = ap (λ (k : ℕ). any k f) (mul-zero m)
+any-blocks m (suc n) f =
+    ap (λ (k : ℕ). any k f) (mul-suc m n)
+    ∙ any-split (m * n) m f
+    ∙ ap (λ (b : Bool). b || any m (λ k. f (m * n + k))) (any-blocks m n f)
+
 -- ---- sums
 
 pub sum-same : (n : ℕ) (f g : ℕ → ℕ) → ((j : ℕ) → j < n → f j ≡ g j) → sum n f ≡ sum n g
@@ -312,3 +361,30 @@ sum-some (suc n) f h = go (λ k. sum-some n f k) (sum n f) refl
     go : (0 < sum n f → (j : ℕ) × (j < n) × (0 < f j)) → (s : ℕ) → sum n f ≡ s → (j : ℕ) × (j < suc n) × (0 < f j)
     go rest zero e = (n, omega arith, omega arith)
     go rest (suc s) e = let r = rest (omega arith) in (r .0, omega (arith, r .1), r .2)
+
+-- sums of sums, of larger terms, of multiples, and of a single term
+pub sum-add : (n : ℕ) (f g : ℕ → ℕ) → sum n (λ j. f j + g j) ≡ sum n f + sum n g
+unfolding sum
+sum-add zero f g = refl
+sum-add (suc n) f g = let e = sum-add n f g in omega arith
+
+pub sum-mono : (n : ℕ) (f g : ℕ → ℕ) → ((j : ℕ) → j < n → f j ≤ g j) → sum n f ≤ sum n g
+unfolding sum
+sum-mono zero f g h = zero-le
+sum-mono (suc n) f g h = add-le-add (sum-mono n f g (λ j l. h j (omega arith))) (h n (omega arith))
+
+pub sum-mul : (n : ℕ) (f : ℕ → ℕ) (x : ℕ) → sum n (λ j. f j * x) ≡ sum n f * x
+unfolding sum
+sum-mul zero f x = sym (zero-mul x)
+sum-mul (suc n) f x = ap (λ (y : ℕ). y + f n * x) (sum-mul n f x) ∙ sym (add-mul (sum n f) (f n) x)
+
+pub sum-zeros : (n : ℕ) → sum n (λ j. 0) ≡ 0
+unfolding sum
+sum-zeros zero = refl
+sum-zeros (suc n) = let e = sum-zeros n in omega arith
+
+pub sum-swap : (m n : ℕ) (f : ℕ → ℕ → ℕ) → sum m (λ i. sum n (λ j. f i j)) ≡ sum n (λ j. sum m (λ i. f i j))
+unfolding sum
+sum-swap zero n f = sym (sum-zeros n)
+sum-swap (suc m) n f =
+    ap (λ (x : ℕ). x + sum n (λ j. f m j)) (sum-swap m n f) ∙ sym (sum-add n (λ j. sum m (λ i. f i j)) (λ j. f m j))

@@ -10,3 +10,4 @@ pub mod Natural
 pub mod Markers
 pub mod Decoded
 pub mod Cases
+pub mod Bounds

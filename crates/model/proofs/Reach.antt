@@ -1,5 +1,5 @@
--- The reach of a binder, step by step from a parent to its child, where refusals 8 and 9 have passed: each node but 0 has one
--- parent, and the names that reach a child are those that reach its parent and those that the parent binds.
+-- Parents, binders and reach. Where refusals 8 and 9 have passed, each node but 0 has one parent, and the names that reach a child are
+-- those that reach its parent and those that the parent binds; where 11 has passed, each name has one binder.
 use Prim.Native.Nat.{ℕ, zero, suc, _+_, _≤_, _<_, zero-le}
 use native.Mathlib.Nat.{not-suc-le-zero}
 use native.Mathlib.Omega.{arith}
@@ -14,8 +14,20 @@ use Rattle.laws.specs.Lists.{has, times}
 use Rattle.laws.proofs.Search.{and-split, and-join, or-split, or-left, or-right, decided, same-test, test-clear, first-clear, any-true, true-any, sum-one, sum-two, sum-some}
 use Rattle.laws.proofs.Lists.{has-times, times-has}
 use Rattle.model.specs.Tree.{Array, nodeAt}
-use Rattle.model.specs.Formed.{children, binds, refusal8, fieldsTo, refusal9, reaches, inReach}
-use Rattle.model.proofs.Tree.{child-above}
+use Rattle.model.specs.Formed.{children, binds, refusal8, fieldsTo, refusal9, binders, refusal11, reaches, inReach}
+use Rattle.model.proofs.Tree.{parent-below, child-above}
+
+-- a number that stands once in all the lists of the numbers below n stands in one of them only
+two-is-one : {n : ℕ} (f : ℕ → List ℕ) (v i j : ℕ) → i < n → j < n → has (f i) v ≡ true → has (f j) v ≡ true → sum n (λ k. times (f k) v) ≡ 1 → i ≡ j
+two-is-one {n} f v i j hi hj bi bj u = go (decided (eqb i j))
+  where
+    go : (eqb i j ≡ true) ⊎ (eqb i j ≡ false) → i ≡ j
+    go (inl e) = eqb-true i j e
+    go (inr e) =
+        let t = sum-two n (λ k. times (f k) v) i j (eqb-false i j e) hi hj in
+        let x = has-times (f i) v bi in
+        let y = has-times (f j) v bj in
+        absurd (omega arith)
 
 -- node c is a child of node j
 abbrev pub IsChild : Array → ℕ → ℕ → Type 0
@@ -41,24 +53,18 @@ more (suc d) a v i e =
     (and-join (c .0) (by-more d a v (s .0) (λ k. more d a v (s .0) k) (c .1)))
 
 module _ (a : Array) (ok : refusal8 a ≡ clear) (one : refusal9 a ≡ clear) where
-  fields-one : (c : ℕ) → c < a .size → c ≢ 0 → fieldsTo a c ≡ 1
+  pub fields-one : (c : ℕ) → c < a .size → c ≢ 0 → fieldsTo a c ≡ 1
   unfolding refusal9
   fields-one c h n =
       ⊎-elim (λ (z : eqb c 0 ≡ true). absurd (n (eqb-true c 0 z))) (λ (z : eqb (fieldsTo a c) 1 ≡ true). eqb-true _ 1 z)
       (or-split (eqb c 0) (eqb (fieldsTo a c) 1) (test-clear _ _ (first-clear (a .size) _ one c h)))
 
-  pub one-parent : (c i j : ℕ) → c < a .size → c ≢ 0 → i < a .size → j < a .size → IsChild a i c → IsChild a j c → i ≡ j
+  pub one-parent : (c i j : ℕ) → IsChild a i c → IsChild a j c → i ≡ j
   unfolding fieldsTo
-  one-parent c i j h n hi hj ci cj = go (decided (eqb i j))
-    where
-      go : (eqb i j ≡ true) ⊎ (eqb i j ≡ false) → i ≡ j
-      go (inl e) = eqb-true i j e
-      go (inr e) =
-          let t = sum-two (a .size) (λ k. times (children (nodeAt a k)) c) i j (eqb-false i j e) hi hj in
-          let u = fields-one c h n in
-          let x = has-times (children (nodeAt a i)) c ci in
-          let y = has-times (children (nodeAt a j)) c cj in
-          absurd (omega arith)
+  one-parent c i j ci cj =
+      let b = child-above a ok i c ci in
+      let u = fields-one c (b .1) (λ z. absurd (omega (arith, b .0))) in
+      two-is-one (λ k. children (nodeAt a k)) c i j (parent-below a i c ci) (parent-below a j c cj) ci cj u
 
   -- every node but 0 has a parent, below it in number
   pub parent : (c : ℕ) → c < a .size → c ≢ 0 → (j : ℕ) × (j < c) × IsChild a j c
@@ -67,21 +73,20 @@ module _ (a : Array) (ok : refusal8 a ≡ clear) (one : refusal9 a ≡ clear) wh
       let u = fields-one c h n in
       let s = sum-some (a .size) (λ k. times (children (nodeAt a k)) c) (omega arith) in
       let k = times-has (children (nodeAt a (s .0))) c (s .2) in
-      (s .0, child-above a ok (s .0) c (s .1) k .0, k)
+      (s .0, child-above a ok (s .0) c k .0, k)
 
   -- what reaches a child comes by its parent
-  down : (d j c v : ℕ) → j < a .size → IsChild a j c → reaches (suc d) a v c ≡ true → by d a v j ≡ true
+  down : (d j c v : ℕ) → IsChild a j c → reaches (suc d) a v c ≡ true → by d a v j ≡ true
   unfolding reaches
-  down d j c v hj k e =
+  down d j c v k e =
       let s = any-true (a .size) (λ i. has (children (nodeAt a i)) c && by d a v i) e in
       let t = and-split (has (children (nodeAt a (s .0))) c) (by d a v (s .0)) (s .2) in
-      let b = child-above a ok j c hj k in
-      let p : s .0 ≡ j = one-parent c (s .0) j (b .1) (λ z. absurd (omega (arith, b .0))) (s .1) hj (t .0) k in
+      let p : s .0 ≡ j = one-parent c (s .0) j (t .0) k in
       rw p at (t .1)
 
-  up : (d j c v : ℕ) → j < a .size → IsChild a j c → by d a v j ≡ true → reaches (suc d) a v c ≡ true
+  up : (d j c v : ℕ) → IsChild a j c → by d a v j ≡ true → reaches (suc d) a v c ≡ true
   unfolding reaches
-  up d j c v hj k e = true-any (a .size) (λ i. has (children (nodeAt a i)) c && by d a v i) j hj (and-join k e)
+  up d j c v k e = true-any (a .size) (λ i. has (children (nodeAt a i)) c && by d a v i) j (parent-below a j c k) (and-join k e)
 
   -- as many nodes up as the node's number are enough: nothing above has a lower number left
   enough : (d i v : ℕ) → i < a .size → reaches (suc d) a v i ≡ true → i ≤ d → reaches d a v i ≡ true
@@ -89,33 +94,52 @@ module _ (a : Array) (ok : refusal8 a ≡ clear) (one : refusal9 a ≡ clear) wh
   enough zero i v h e l =
       let s = any-true (a .size) (λ j. has (children (nodeAt a j)) i && by 0 a v j) e in
       let t = and-split (has (children (nodeAt a (s .0))) i) (by 0 a v (s .0)) (s .2) in
-      absurd (omega (arith, child-above a ok (s .0) i (s .1) (t .0) .0))
+      absurd (omega (arith, child-above a ok (s .0) i (t .0) .0))
   enough (suc d) i v h e l =
       let s = any-true (a .size) (λ j. has (children (nodeAt a j)) i && by (suc d) a v j) e in
       let t = and-split (has (children (nodeAt a (s .0))) i) (by (suc d) a v (s .0)) (s .2) in
-      let b = child-above a ok (s .0) i (s .1) (t .0) in
-      up d (s .0) i v (s .1) (t .0)
+      let b = child-above a ok (s .0) i (t .0) in
+      up d (s .0) i v (t .0)
       (⊎-elim (λ (x : has (binds (nodeAt a (s .0))) v ≡ true). or-left _ (reaches d a v (s .0)) x)
       (λ (x : reaches (suc d) a v (s .0) ≡ true). or-right (has (binds (nodeAt a (s .0))) v) _ (enough d (s .0) v (s .1) x (omega (arith, b .0))))
       (or-split (has (binds (nodeAt a (s .0))) v) (reaches (suc d) a v (s .0)) (t .1)))
 
   -- the names that reach a child: those that its parent binds, and those that reach its parent
-  pub reach-child : (j c v : ℕ) → j < a .size → IsChild a j c → inReach a v c ≡ has (binds (nodeAt a j)) v || inReach a v j
+  pub reach-child : (j c v : ℕ) → IsChild a j c → inReach a v c ≡ has (binds (nodeAt a j)) v || inReach a v j
   unfolding inReach
-  reach-child j c v h k =
-      let b = child-above a ok j c h k in
+  reach-child j c v k =
+      let b = child-above a ok j c k in
       same-test _ _
-      (λ e. down (a .size) j c v h k (more (a .size) a v c e))
-      (λ e. enough (a .size) c v (b .1) (up (a .size) j c v h k e) (omega (arith, b .1)))
+      (λ e. down (a .size) j c v k (more (a .size) a v c e))
+      (λ e. enough (a .size) c v (b .1) (up (a .size) j c v k e) (omega (arith, b .1)))
 
   -- nothing reaches the root
-  pub reach-root : 0 < a .size → (v : ℕ) → inReach a v 0 ≡ false
+  pub reach-root : (v : ℕ) → inReach a v 0 ≡ false
   unfolding inReach reaches
-  reach-root h v = ⊎-elim (λ (e : reaches (a .size) a v 0 ≡ true). absurd (above (a .size) e)) (λ (e : reaches (a .size) a v 0 ≡ false). e) (decided (reaches (a .size) a v 0))
+  reach-root v = ⊎-elim (λ (e : reaches (a .size) a v 0 ≡ true). absurd (above (a .size) e)) (λ (e : reaches (a .size) a v 0 ≡ false). e) (decided (reaches (a .size) a v 0))
     where
       above : (d : ℕ) → reaches d a v 0 ≡ true → ⊥
       above zero e = false≢true e
       above (suc d) e =
           let s = any-true (a .size) (λ j. has (children (nodeAt a j)) 0 && by d a v j) e in
           let t = and-split (has (children (nodeAt a (s .0))) 0) (by d a v (s .0)) (s .2) in
-          not-suc-le-zero (child-above a ok (s .0) 0 (s .1) (t .0) .0)
+          not-suc-le-zero (child-above a ok (s .0) 0 (t .0) .0)
+
+-- ---- binders
+
+module _ (a : Array) (once : refusal11 a ≡ clear) (v : ℕ) (h : v < a .names) where
+  bound-once : binders a v ≡ 1
+  unfolding refusal11
+  bound-once = eqb-true _ 1 (test-clear _ _ (first-clear (a .names) _ once v h))
+
+  -- every name has a binder, and one only
+  pub binder : (j : ℕ) × (j < a .size) × (has (binds (nodeAt a j)) v ≡ true)
+  unfolding binders
+  binder =
+      let u = bound-once in
+      let s = sum-some (a .size) (λ k. times (binds (nodeAt a k)) v) (omega arith) in
+      (s .0, s .1, times-has (binds (nodeAt a (s .0))) v (s .2))
+
+  pub one-binder : (i j : ℕ) → i < a .size → j < a .size → has (binds (nodeAt a i)) v ≡ true → has (binds (nodeAt a j)) v ≡ true → i ≡ j
+  unfolding binders
+  one-binder i j hi hj bi bj = two-is-one (λ k. binds (nodeAt a k)) v i j hi hj bi bj bound-once

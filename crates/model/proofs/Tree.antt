@@ -4,7 +4,7 @@ use native.Mathlib.Nat.{not-suc-le-zero}
 use native.Mathlib.Omega.{arith}
 use mathlib.Core.Path.{_≡_, refl, sym, ap, ap₂, _∙_, subst}
 use mathlib.Core.Logic.{_⊎_, inl, inr}
-use mathlib.Core.Bool.{Bool, true, false, cond, _&&_, true≢false}
+use mathlib.Core.Bool.{Bool, true, false, cond, _&&_, true≢false, false≢true}
 use mathlib.Core.List.{List, [], _∷_, _++_}
 use mathlib.Core.Option.{Option, none, some}
 use lib.Dec.{ltb}
@@ -29,10 +29,20 @@ grow-agree i f g (Node.par l r) h = ap₂ Proc.par (h l (has-here l (r ∷ [])))
 grow-agree i f g (Node.choice l r) h = ap₂ (Proc.choice i) (h l (has-here l (r ∷ []))) (h r (has-later l (r ∷ []) r (has-here r [])))
 grow-agree i f g (Node.agent s x ys l) h = ap (Proc.agent i s x ys) (h l (has-here l []))
 
+-- past the last node there is no child
+pub parent-below : (a : Array) (i c : ℕ) → has (children (nodeAt a i)) c ≡ true → i < a .size
+unfolding nodeAt children has
+parent-below a i c k = go (decided (ltb i (a .size)))
+  where
+    go : (ltb i (a .size) ≡ true) ⊎ (ltb i (a .size) ≡ false) → i < a .size
+    go (inl e) = ltb-true i (a .size) e
+    go (inr e) = absurd (false≢true (rw e at k))
+
 module _ (a : Array) (ok : refusal8 a ≡ clear) where
-  pub child-above : (i c : ℕ) → i < a .size → has (children (nodeAt a i)) c ≡ true → Above (a .size) i c
+  pub child-above : (i c : ℕ) → has (children (nodeAt a i)) c ≡ true → Above (a .size) i c
   unfolding refusal8 childFits
-  child-above i c h k =
+  child-above i c k =
+      let h = parent-below a i c k in
       let s = and-split (ltb i c) (ltb c (a .size)) (all-has _ (children (nodeAt a i)) c (test-clear _ _ (first-clear (a .size) _ ok i h)) k) in
       (ltb-true i c (s .0), ltb-true c (a .size) (s .1))
 
@@ -42,7 +52,7 @@ module _ (a : Array) (ok : refusal8 a ≡ clear) where
   depths zero e i h hd he = absurd (omega arith)
   depths (suc d) zero i h hd he = absurd (omega arith)
   depths (suc d) (suc e) i h hd he =
-      grow-agree i _ _ (nodeAt a i) λ l k. let c = child-above i l h k in depths d e l (c .1) (omega (arith, c .0)) (omega (arith, c .0))
+      grow-agree i _ _ (nodeAt a i) λ l k. let c = child-above i l k in depths d e l (c .1) (omega (arith, c .0)) (omega (arith, c .0))
 
   -- the law of the tree: a node's tree is built of its children's
   pub procAt-grow : (i : ℕ) → i < a .size → procAt a i ≡ grow i (λ l. procAt a l) (nodeAt a i)
@@ -130,7 +140,7 @@ module _ (a : Array) (ok : refusal8 a ≡ clear) (named : refusal10 a ≡ clear)
   wf-tree (suc d) i h hd =
       let n = names-below a named i h in
       wf-grow i (λ l. tree d a l) (nodeAt a i) h refl (depths a ok (a .size) (suc d) i h (omega arith) hd) (n .0) (n .1)
-      (λ l k. let c = child-above a ok i l h k in wf-tree d l (c .1) (omega (arith, c .0)))
+      (λ l k. let c = child-above a ok i l k in wf-tree d l (c .1) (omega (arith, c .0)))
 
   pub wf-procAt : (i : ℕ) → i < a .size → Wf a (procAt a i)
   unfolding procAt

@@ -105,7 +105,7 @@ load w (par p q) = load w p + load w q
 load w (choice i p q) = max (load w p) (load w q)
 load w (agent i s x ys p) = w i
 
--- ---- news
+-- ---- news and agents
 
 unfoldable pub opens : Node → ℕ → Bool
 opens stop o = false
@@ -113,6 +113,13 @@ opens (new n l) o = eqb o n
 opens (par l r) o = false
 opens (choice l r) o = false
 opens (agent s x ys l) o = false
+
+unfoldable pub isAgent : Node → Bool
+isAgent stop = false
+isAgent (new n l) = false
+isAgent (par l r) = false
+isAgent (choice l r) = false
+isAgent (agent s x ys l) = true
 
 -- name o is opened by a new
 unfoldable pub isNew : Array → ℕ → Bool

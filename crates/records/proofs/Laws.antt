@@ -3,16 +3,20 @@ use Prim.Native.Nat.{ℕ, zero, suc, _+_, _*_, _≤_, _<_}
 use native.Mathlib.Nat.{add-suc}
 use native.Mathlib.Omega.{arith}
 use mathlib.Core.Path.{_≡_, refl, sym, ap, _∙_}
-use mathlib.Core.Bool.{true, cond}
+use mathlib.Core.Bool.{true, false, cond}
 use mathlib.Core.List.{List, [], _∷_}
-use lib.Dec.{ltb}
-use lib.ListN.{length, getD, take, drop, length-drop}
+use lib.Dec.{eqb, ltb}
+use lib.ListN.{length, getD, take, drop, length-drop, length-map}
 use lib.Seq.{drop-cons, length-take-le}
-use borrow.Author.Tests.{lt-ltb}
-use Rattle.model.specs.Tree.{nodeAt}
+use mir.Val.{Val}
+use denote.Laws.{Is}
+use denote.Struct.Declared.{row}
+use borrow.Author.Tests.{lt-ltb, ne-eqb}
+use Rattle.model.specs.Tree.{Node, out, inp, resource, nodeAt}
 use Rattle.records.specs.declared.Record.{Record}
 use Rattle.records.specs.declared.Trailer.{Trailer}
-use Rattle.records.specs.Record.{recordAt, recordOf, nodeOf, arrayOf}
+use Rattle.records.specs.Record.{recordAt, recordOf, argsOf, nodeOf, arrayOf}
+use Rattle.records.proofs.Record.{the-type}
 
 -- n bytes from place b + k on, one by one
 abbrev pub bytes : ℕ → ℕ → ℕ → List ℕ → List ℕ
@@ -29,6 +33,45 @@ bytes-take (suc n) k b s h =
 -- a record inside the file has its 8 argument bytes
 pub eight-args : (s : List ℕ) (b : ℕ) → b + 15 < length s → length (recordAt s b .args) ≡ 8
 eight-args s b h = length-take-le 8 (drop (b + 8) s) (simp length-drop (omega arith))
+
+-- a record that a function holds (`Is` of it is what `.good` tells) has its 8 argument bytes
+pub eight-held : (r : Record) (vs : List Val) → Is (row the-type) r vs → length (r .args) ≡ 8
+eight-held r vs h = sym (length-map (r .args) (λ v. v)) ∙ h .1 .1 .1 .1 .1 .1 .1 .1 .0 .1 .0 .1
+
+-- a kind above 5 is none of the others
+pub kind-above : (k j : ℕ) → 5 < k → j ≤ 5 → eqb k j ≡ false
+kind-above k j h l = ne-eqb k j (λ e. omega arith)
+
+-- a statement of a record's kind and of its node, kind by kind; kinds above 5 read as resource
+module _ (r : Record) (P : ℕ → Node → Type 0)
+    (stops : P 0 Node.stop)
+    (news : P 1 (Node.new (r .name) (r .left)))
+    (pars : P 2 (Node.par (r .left) (r .right)))
+    (choices : P 3 (Node.choice (r .left) (r .right)))
+    (outs : P 4 (Node.agent out (r .name) (argsOf r) (r .left)))
+    (ins : P 5 (Node.agent inp (r .name) (argsOf r) (r .left)))
+    (resources : (k : ℕ) → 5 < k → P k (Node.agent resource (r .name) (argsOf r) (r .left))) where
+  pub by-kind : P (r .kind) (nodeOf r)
+  unfolding nodeOf
+  by-kind = go (r .kind) refl
+    where
+      go : (k : ℕ) → r .kind ≡ k → P (r .kind) (nodeOf r)
+      go zero e = rw e stops
+      go (suc zero) e = rw e news
+      go (suc (suc zero)) e = rw e pars
+      go (suc (suc (suc zero))) e = rw e choices
+      go (suc (suc (suc (suc zero)))) e = rw e outs
+      go (suc (suc (suc (suc (suc zero))))) e = rw e ins
+      go (suc (suc (suc (suc (suc (suc k)))))) e =
+          let h : 5 < r .kind = omega arith in
+          rw (
+            kind-above (r .kind) 0 h (omega arith),
+            kind-above (r .kind) 1 h (omega arith),
+            kind-above (r .kind) 2 h (omega arith),
+            kind-above (r .kind) 3 h (omega arith),
+            kind-above (r .kind) 4 h (omega arith),
+            kind-above (r .kind) 5 h (omega arith),
+          ) (resources (r .kind) h)
 
 -- the node at a number below M is the one that its record stands for
 pub node-of : (s : List ℕ) (t : Trailer) (i : ℕ) → i < t .nodes → nodeAt (arrayOf s t) i ≡ nodeOf (recordOf s t i)

@@ -1,26 +1,21 @@
--- What the table of reaching names holds: one bit for each name, 64 to a word, four words to a node.
-use Prim.Native.Nat.{ℕ, zero, suc, _+_, _*_, _/_, _%_, _^_}
-use mathlib.Core.Bool.{Bool, true, false, _&&_}
+-- What the table of reaching names holds: a row of marks for each node.
+use Prim.Native.Nat.{ℕ, zero, suc, _+_, _*_, _<_}
+use mathlib.Core.Path.{_≡_}
+use mathlib.Core.Bool.{Bool, true, false, cond, _&&_, _||_}
 use mathlib.Core.List.{List}
 use lib.Bits.{bitOr}
-use lib.Dec.{eqb, leb, ltb}
+use lib.Dec.{leb}
 use lib.ListN.{getD, set}
-use Rattle.laws.specs.Search.{any}
-use Rattle.laws.specs.Bits.{bit}
+use Rattle.laws.specs.Lists.{has}
+use Rattle.marks.specs.Marks.{marked}
+use Rattle.model.specs.Tree.{Node}
+use Rattle.model.specs.Formed.{children, binds}
 use Rattle.records.specs.declared.Record.{Record}
-
--- name v is marked in the row that starts at word `at`
-unfoldable pub marked : List ℕ → ℕ → ℕ → Bool
-marked table at v = bit (getD table (at + v / 64) 0) (v % 64)
-
--- a row with one name more where the test is true
-unfoldable pub markIf : List ℕ → Bool → ℕ → List ℕ
-markIf row true v = set row (v / 64) (bitOr (getD row (v / 64) 0) (2 ^ (v % 64)))
-markIf row false v = row
+use Rattle.records.specs.Record.{argsOf}
 
 -- name v is a parameter of a record
-unfoldable pub isParam : Record → ℕ → Bool
-isParam r v = any 8 λ k. (leb 5 (r .kind) && ltb k (r .arity)) && eqb v (getD (r .args) k 0)
+abbrev pub isParam : Record → ℕ → Bool
+isParam r v = leb 5 (r .kind) && has (argsOf r) v
 
 -- the first n words of row `to` hold those of row `from` and of `bound`
 unfoldable pub passed : List ℕ → ℕ → ℕ → List ℕ → ℕ → List ℕ
@@ -28,3 +23,13 @@ passed table from to bound zero = table
 passed table from to bound (suc n) =
     let before = passed table from to bound n in
     set before (4 * to + n) (bitOr (getD before (4 * from + n) 0) (getD bound n 0))
+
+-- the same of all four words where the test is true
+unfoldable pub passIf : List ℕ → Bool → ℕ → ℕ → List ℕ → List ℕ
+passIf table true from to bound = passed table from to bound 4
+passIf table false from to bound = table
+
+-- a child of node j has the marks of node j and of what it binds; every other row is as it was
+pub record HandedDown (before after : List ℕ) (j : ℕ) (n : Node) : Type 0 where
+  pub rows : (i v : ℕ) → v < 256 → marked after (4 * i) v
+      ≡ cond (has (children n) i) (marked before (4 * j) v || has (binds n) v) (marked before (4 * i) v)

@@ -1,59 +1,41 @@
 // Which names reach which node, in a table filled once from the root down: refusal 12.
 // Promises the model's refusal12 of the array that the bytes stand for, where 8 and 9 have passed.
-// Depends on records, model and laws. The table takes 32,768 bytes of stack.
+// Depends on records, marks, model and laws. The table takes 32,768 bytes of stack.
 ghost use mathlib.Core.Path.{_≡_};
-ghost use mathlib.Core.Bool.{_&&_, _||_};
+ghost use mathlib.Core.Bool.{true, _||_};
 ghost use Prim.Native.Nat.{ℕ, _+_, _*_, _<_, _≤_};
-ghost use lib.ListN.{length, getD};
-ghost use lib.Dec.{leb};
-ghost use Rattle.laws.specs.Search.{clear, every};
+ghost use lib.ListN.{length};
+ghost use Rattle.laws.specs.Search.{clear};
 ghost use Rattle.laws.specs.Lists.{all, has};
-ghost use Rattle.model.specs.Formed.{binds, uses, inReach, refusal8, refusal9, refusal12};
-ghost use Rattle.records.specs.Record.{nodeOf, arrayOf, foundOf};
-ghost use Rattle.scopes.specs.Scope.{marked, markIf, isParam, passed};
+ghost use Rattle.model.specs.Formed.{children, binds, uses, inReach, refusal8, refusal9, refusal12};
+ghost use Rattle.records.specs.Record.{argsOf, nodeOf, arrayOf, foundOf};
+ghost use Rattle.marks.specs.Marks.{marked};
+ghost use Rattle.scopes.specs.Scope.{isParam, passed, passIf, HandedDown};
 use records::Check;
 use records::Record;
 use records::Refusal;
 use records::Trailer;
 
-// The mark of name v in the row of four words that starts at `at`.
-fn is_marked(table: &[u64], at: usize, v: usize) -> bool
-    requires { ⌜ (at + 3 < length (now table)) × (v < 256) ⌝ }
-    ensures { λ b. ⌜ b ≡ marked (now (table .entry)) at v ⌝ }
-{
-    (table[at + v / 64] >> (v % 64)) % 2 == 1
-}
-
-// Marks name v in a row of four words where `on` is true.
-fn mark_if(row: &mut [u64], on: bool, v: usize)
-    requires { ⌜ (length (now row) ≡ 4) × (v < 256) ⌝ }
-    ensures { λ _. ⌜ now (row .exit) ≡ markIf (now (row .entry)) on v ⌝ }
-{
-    if on {
-        row[v / 64] = row[v / 64] | (1 << (v % 64));
-    }
-}
-
 // Marks the parameters that a record binds.
 fn mark_params(row: &mut [u64], r: Record)
-    requires { ⌜ (length (now row) ≡ 4) × (length (r .args) ≡ 8) ⌝ }
+    requires { ⌜ length (now row) ≡ 4 ⌝ }
     ensures { λ _. ⌜ ((v : ℕ) → v < 256 → marked (now (row .exit)) 0 v ≡ marked (now (row .entry)) 0 v || isParam r v) ⌝ }
 {
     let args = r.args;
     let mut k: usize = 0;
     while k < 8 {
-        mark_if(row, (5 <= r.kind) & (k < r.arity), records::wide(args[k]));
+        marks::mark_if(row, (5 <= r.kind) & (k < r.arity), records::wide(args[k]));
         k += 1;
     }
 }
 
 // The names that a record binds, marked.
 fn bound_by(r: Record) -> [u64; 4]
-    requires { ⌜ (length (r .args) ≡ 8) × (r .name < 256) ⌝ }
+    requires { ⌜ r .name < 256 ⌝ }
     ensures { λ row. ⌜ ((v : ℕ) → v < 256 → marked row 0 v ≡ has (binds (nodeOf r)) v) ⌝ }
 {
     let mut row = [0u64; 4];
-    mark_if(&mut row, r.kind == 1, r.name);
+    marks::mark_if(&mut row, r.kind == 1, r.name);
     mark_params(&mut row, r);
     row
 }
@@ -70,6 +52,27 @@ fn pass_down(table: &mut [u64], from: usize, to: usize, bound: [u64; 4])
     }
 }
 
+// The same where `on` is true.
+fn pass_if(table: &mut [u64], on: bool, from: usize, to: usize, bound: [u64; 4])
+    requires { ⌜ (on ≡ true → (from < to) × (4 * to + 3 < length (now table))) ⌝ }
+    ensures { λ _. ⌜ now (table .exit) ≡ passIf (now (table .entry)) on from to bound ⌝ }
+{
+    if on {
+        pass_down(table, from, to, bound);
+    }
+}
+
+// The children of node j, whose record is r, have the marks of node j and of what it binds.
+fn pass_children(table: &mut [u64], j: usize, r: Record)
+    requires { ⌜ r .name < 256 ⌝ }
+    requires { ⌜ ((c : ℕ) → has (children (nodeOf r)) c ≡ true → (j < c) × (4 * c + 3 < length (now table))) ⌝ }
+    ensures { λ _. ⌜ HandedDown (now (table .entry)) (now (table .exit)) j (nodeOf r) ⌝ }
+{
+    let bound = bound_by(r);
+    pass_if(table, 0 < r.kind, j, r.left, bound);
+    pass_if(table, (r.kind == 2) | (r.kind == 3), j, r.right, bound);
+}
+
 // The names that reach each node, marked in rows of four words.
 fn scopes(file: &[u8], t: Trailer) -> [u64; 4096]
     requires { ⌜ (t .start + 16 * t .nodes ≤ length (now file)) × (t .nodes ≤ 1024) ⌝ }
@@ -80,13 +83,7 @@ fn scopes(file: &[u8], t: Trailer) -> [u64; 4096]
     let mut j: usize = 0;
     while j < t.nodes {
         let r = records::record_at(file, t.start + 16 * j);
-        let bound = bound_by(r);
-        if 0 < r.kind {
-            pass_down(&mut table, j, r.left, bound);
-        }
-        if (r.kind == 2) | (r.kind == 3) {
-            pass_down(&mut table, j, r.right, bound);
-        }
+        pass_children(&mut table, j, r);
         j += 1;
     }
     table
@@ -94,25 +91,23 @@ fn scopes(file: &[u8], t: Trailer) -> [u64; 4096]
 
 // The arguments are marked in the row at `at`.
 fn args_marked(table: &[u64], at: usize, r: Record) -> bool
-    requires { ⌜ (at + 3 < length (now table)) × (length (r .args) ≡ 8) ⌝ }
-    ensures { λ b. ⌜ b ≡ every 8 (λ k. leb (r .arity) k || marked (now (table .entry)) at (getD (r .args) k 0)) ⌝ }
+    requires { ⌜ at + 3 < length (now table) ⌝ }
+    ensures { λ b. ⌜ b ≡ all (marked (now (table .entry)) at) (argsOf r) ⌝ }
 {
     let args = r.args;
+    let mut found = true;
     let mut k: usize = 0;
     while k < 8 {
-        if k < r.arity {
-            if !is_marked(table, at, records::wide(args[k])) {
-                return false;
-            }
-        }
+        let here = marks::is_marked(table, at, records::wide(args[k]));
+        found = found & ((r.arity <= k) | here);
         k += 1;
     }
-    true
+    found
 }
 
 // The names that a record uses are marked in the row at `at`.
 fn uses_marked(table: &[u64], at: usize, r: Record) -> bool
-    requires { ⌜ (at + 3 < length (now table)) × (length (r .args) ≡ 8) × (r .name < 256) ⌝ }
+    requires { ⌜ (at + 3 < length (now table)) × (r .name < 256) ⌝ }
     ensures { λ b. ⌜ b ≡ all (marked (now (table .entry)) at) (uses (nodeOf r)) ⌝ }
 {
     if r.kind < 4 {
@@ -120,9 +115,9 @@ fn uses_marked(table: &[u64], at: usize, r: Record) -> bool
     }
     if r.kind == 4 {
         let args = args_marked(table, at, r);
-        return is_marked(table, at, r.name) & args;
+        return marks::is_marked(table, at, r.name) & args;
     }
-    is_marked(table, at, r.name)
+    marks::is_marked(table, at, r.name)
 }
 
 // Refusal 12.

@@ -1,9 +1,9 @@
 // Little-endian numbers in a slice of bytes, and the word sum of a file.
-// Promises equations with specs/Numbers. Depends on nothing.
+// Promises equations with specs/Numbers. Depends on laws.
 ghost use mathlib.Core.Path.{_≡_};
 ghost use Prim.Native.Nat.{_+_, _*_, _<_, _≤_};
 ghost use lib.ListN.{length};
-ghost use Rattle.wire.specs.Numbers.{u16At, u32At, wordSum};
+ghost use Rattle.wire.specs.Numbers.{u16At, u32At, u64At, wordSum};
 
 // A byte as a wider number.
 fn wide(x: u8) -> u32
@@ -32,6 +32,22 @@ pub fn u32_at(s: &[u8], at: usize) -> u32
     let b2 = wide(s[at + 2]);
     let b3 = wide(s[at + 3]);
     b0 + 256 * b1 + 65536 * b2 + 16777216 * b3
+}
+
+fn wide64(x: u32) -> u64
+    ensures { λ r. ⌜ (r ≡ x) × (r < 4294967296) ⌝ }
+{
+    x as u64
+}
+
+// The 64-bit number at `at`.
+pub fn u64_at(s: &[u8], at: usize) -> u64
+    requires { ⌜ at + 7 < length (now s) ⌝ }
+    ensures { λ r. ⌜ r ≡ u64At (now (s .entry)) at ⌝ }
+{
+    let low = wide64(u32_at(s, at));
+    let high = wide64(u32_at(s, at + 4));
+    low + 4294967296 * high
 }
 
 // The sum of the first `words` 32-bit words, which wraps at 2^32.

@@ -1,135 +1,101 @@
+-- Field by field, what each read ensures; the argument bytes are the eight that stand there.
 use denote.Ref.{now}
 use Rattle.records.proofs.Laws.{bytes-take}
 use native.Mathlib.Omega.{arith}
 use borrow.Author.Needs.{needs}
 use Rattle.records.proofs.record_at.Statement.{statement}
 use Rattle.records.proofs.record_at.Tie as tie
-use Rattle.records.proofs.record_at.Reads as reads
-use Rattle.records.proofs.record_at.Lts as lts
-use Rattle.records.proofs.wide.Reads as wide-reads
-use Rattle.wire.proofs.u16_at.Reads as u16-at-reads
 
--- src/lib.rt:51:20
 shared-slice-read-wide : tie.Need-shared-slice-read-wide
 shared-slice-read-wide c = search needs
 
--- src/lib.rt:51:15
 wide-requires : tie.Need-wide-requires
 wide-requires c κs = search needs
 
--- src/lib.rt:52:23
 add-wide : tie.Need-add-wide
 add-wide c = search needs
 
--- src/lib.rt:52:21
 shared-slice-read-wide-2 : tie.Need-shared-slice-read-wide-2
 shared-slice-read-wide-2 c = search needs
 
--- src/lib.rt:52:16
 wide-requires-2 : tie.Need-wide-requires-2
 wide-requires-2 c κs = search needs
 
--- src/lib.rt:53:31
 add-u16-at : tie.Need-add-u16-at
 add-u16-at c = search needs
 
--- src/lib.rt:53:15
 u16-at-requires : tie.Need-u16-at-requires
 u16-at-requires c κs = search needs
 
--- src/lib.rt:54:32
 add-u16-at-2 : tie.Need-add-u16-at-2
 add-u16-at-2 c = search needs
 
--- src/lib.rt:54:16
 u16-at-requires-2 : tie.Need-u16-at-requires-2
 u16-at-requires-2 c κs = search needs
 
--- src/lib.rt:55:22
 add-wide-2 : tie.Need-add-wide-2
 add-wide-2 c = search needs
 
--- src/lib.rt:55:20
 shared-slice-read-wide-3 : tie.Need-shared-slice-read-wide-3
 shared-slice-read-wide-3 c = search needs
 
--- src/lib.rt:55:15
 wide-requires-3 : tie.Need-wide-requires-3
 wide-requires-3 c κs = search needs
 
--- src/lib.rt:56:16
 add-t18 : tie.Need-add-t18
 add-t18 c = search needs
 
--- src/lib.rt:56:14
 shared-slice-read-t20 : tie.Need-shared-slice-read-t20
 shared-slice-read-t20 c = search needs
 
--- src/lib.rt:58:15
 add-t21 : tie.Need-add-t21
 add-t21 c = search needs
 
--- src/lib.rt:58:13
 shared-slice-read-t23 : tie.Need-shared-slice-read-t23
 shared-slice-read-t23 c = search needs
 
--- src/lib.rt:59:15
 add-t24 : tie.Need-add-t24
 add-t24 c = search needs
 
--- src/lib.rt:59:13
 shared-slice-read-t26 : tie.Need-shared-slice-read-t26
 shared-slice-read-t26 c = search needs
 
--- src/lib.rt:60:15
 add-t27 : tie.Need-add-t27
 add-t27 c = search needs
 
--- src/lib.rt:60:13
 shared-slice-read-t29 : tie.Need-shared-slice-read-t29
 shared-slice-read-t29 c = search needs
 
--- src/lib.rt:61:15
 add-t30 : tie.Need-add-t30
 add-t30 c = search needs
 
--- src/lib.rt:61:13
 shared-slice-read-t32 : tie.Need-shared-slice-read-t32
 shared-slice-read-t32 c = search needs
 
--- src/lib.rt:62:15
 add-t33 : tie.Need-add-t33
 add-t33 c = search needs
 
--- src/lib.rt:62:13
 shared-slice-read-t35 : tie.Need-shared-slice-read-t35
 shared-slice-read-t35 c = search needs
 
--- src/lib.rt:63:15
 add-t36 : tie.Need-add-t36
 add-t36 c = search needs
 
--- src/lib.rt:63:13
 shared-slice-read-t38 : tie.Need-shared-slice-read-t38
 shared-slice-read-t38 c = search needs
 
--- src/lib.rt:64:15
 add-t39 : tie.Need-add-t39
 add-t39 c = search needs
 
--- src/lib.rt:64:13
 shared-slice-read-t41 : tie.Need-shared-slice-read-t41
 shared-slice-read-t41 c = search needs
 
--- src/lib.rt:65:15
 add-t42 : tie.Need-add-t42
 add-t42 c = search needs
 
--- src/lib.rt:65:13
 shared-slice-read-t44 : tie.Need-shared-slice-read-t44
 shared-slice-read-t44 c = search needs
 
--- src/lib.rt:46:1
 returns : tie.Need-returns
 returns c =
     let args = bytes-take 8 8 (c .before .before .before .before .before .before .before .before .before .before .before .before .before .before .before .before .before .before .args .at) (now (c .before .before .before .before .before .before .before .before .before .before .before .before .before .before .before .before .before .before .args .s)) (omega arith) in

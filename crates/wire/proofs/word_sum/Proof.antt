@@ -1,3 +1,4 @@
+-- The loop's invariant: the sum so far is that of the first i words.
 use denote.Ref.{now}
 use Prim.Native.Nat.{ℕ, _≤_, _-_}
 use mathlib.Core.Path.{_≡_, refl, ap, sym, _∙_}
@@ -7,10 +8,6 @@ use native.Mathlib.Omega.{arith}
 use borrow.Author.Needs.{needs}
 use Rattle.wire.proofs.word_sum.Statement.{statement}
 use Rattle.wire.proofs.word_sum.Tie as tie
-use Rattle.wire.proofs.word_sum.Reads as reads
-use Rattle.wire.proofs.word_sum.Lts as lts
-use Rattle.std.proofs.num.wrapping_add_u32.Reads as wrapping-add-u32-reads
-use Rattle.wire.proofs.u32_at.Reads as u32-at-reads
 
 abbrev Inv-loop : tie.InvT-loop
 Inv-loop s words sum₀ i₀ sum i = (i ≤ words) × (sum ≡ wordSum s i)
@@ -18,36 +15,28 @@ Inv-loop s words sum₀ i₀ sum i = (i ≤ words) × (sum ≡ wordSum s i)
 abbrev μ-loop : tie.MeasureT-loop
 μ-loop s words sum₀ i₀ sum i = words - i
 
--- src/lib.rt:43:5
 loop-holds : tie.Need-loop-holds Inv-loop μ-loop
 unfolding wordSum
 loop-holds c = (search needs, refl)
 
--- src/lib.rt:44:57
 mul-u32-at : tie.Need-mul-u32-at Inv-loop μ-loop
 mul-u32-at c = search needs
 
--- src/lib.rt:44:47
 u32-at-requires : tie.Need-u32-at-requires Inv-loop μ-loop
 u32-at-requires c κs = search needs
 
--- src/lib.rt:44:9
 wrapping-add-u32-requires : tie.Need-wrapping-add-u32-requires Inv-loop μ-loop
 wrapping-add-u32-requires c κs = search needs
 
--- src/lib.rt:45:9
 add-i : tie.Need-add-i Inv-loop μ-loop
 add-i c = search needs
 
--- src/lib.rt:43:5
 loop-less : tie.Need-loop-less Inv-loop μ-loop
 loop-less c = search needs
 
--- src/lib.rt:43:5
 loop-again : tie.Need-loop-again Inv-loop μ-loop
 loop-again c = (search needs, cc (wordSum-step (now (c .before .before .before .before .before .args .s)) (c .before .before .before .loop .i)))
 
--- src/lib.rt:37:1
 returns : tie.Need-returns Inv-loop μ-loop
 returns c =
     let e : c .before .loop .i ≡ c .before .before .before .args .words = omega arith in

@@ -1,0 +1,54 @@
+-- What a record has for children, binds and uses, by its kind.
+use Prim.Native.Nat.{ℕ, _<_}
+use native.Mathlib.Omega.{arith}
+use mathlib.Core.Path.{_≡_, refl, sym, ap, _∙_}
+use mathlib.Core.Bool.{Bool, true, false, cond, _&&_, _||_, or-false, and-assoc}
+use mathlib.Core.List.{List, [], _∷_}
+use lib.Dec.{eqb, leb, ltb}
+use lib.ListN.{length, getD}
+use borrow.Author.Tests.{lt-ltb, le-ltb, le-leb}
+use Rattle.laws.specs.Search.{any}
+use Rattle.laws.specs.Lists.{has}
+use Rattle.laws.proofs.Search.{any-same, any-under}
+use Rattle.laws.proofs.Lists.{has-take}
+use Rattle.model.specs.Formed.{children, params, binds, sent, uses}
+use Rattle.records.specs.declared.Record.{Record}
+use Rattle.records.specs.Record.{argsOf, nodeOf}
+use Rattle.records.proofs.Laws.{by-kind, kind-above}
+use Rattle.scopes.specs.Scope.{isParam}
+
+module _ (r : Record) where
+  pub children-of : (c : ℕ) → has (children (nodeOf r)) c ≡ (ltb 0 (r .kind) && eqb c (r .left)) || ((eqb (r .kind) 2 || eqb (r .kind) 3) && eqb c (r .right))
+  unfolding children has
+  children-of c =
+      by-kind r (λ k n. has (children n) c ≡ (ltb 0 k && eqb c (r .left)) || ((eqb k 2 || eqb k 3) && eqb c (r .right)))
+      refl refl two two refl refl
+      (λ k h. rw (lt-ltb 0 k (omega arith), kind-above k 2 h (omega arith), kind-above k 3 h (omega arith)))
+    where
+      two : eqb c (r .left) || (eqb c (r .right) || false) ≡ eqb c (r .left) || eqb c (r .right)
+      two = ap (λ (b : Bool). eqb c (r .left) || b) (or-false _)
+
+  pub binds-of : (v : ℕ) → has (binds (nodeOf r)) v ≡ (eqb (r .kind) 1 && eqb v (r .name)) || isParam r v
+  unfolding binds params has
+  binds-of v =
+      by-kind r (λ k n. has (binds n) v ≡ (eqb k 1 && eqb v (r .name)) || (leb 5 k && has (argsOf r) v)) refl refl refl refl refl refl
+      (λ k h. rw (kind-above k 1 h (omega arith), le-leb 5 k (omega arith)))
+
+  pub uses-of : uses (nodeOf r) ≡ cond (ltb (r .kind) 4) [] (r .name ∷ cond (eqb (r .kind) 4) (argsOf r) [])
+  unfolding uses sent
+  uses-of =
+      by-kind r (λ k n. uses n ≡ cond (ltb k 4) [] (r .name ∷ cond (eqb k 4) (argsOf r) [])) refl refl refl refl refl refl
+      (λ k h. rw (le-ltb k 4 (omega arith), kind-above k 4 h (omega arith)))
+
+  -- the parameters, as a loop over the argument bytes finds them
+  abbrev pub paramAt : ℕ → ℕ → Bool
+  paramAt v k = (leb 5 (r .kind) && ltb k (r .arity)) && eqb v (getD (r .args) k 0)
+
+  pub params-found : (v : ℕ) → length (r .args) ≡ 8 → any 8 (paramAt v) ≡ isParam r v
+  params-found v l =
+      any-same 8 (paramAt v) (λ k. leb 5 (r .kind) && here k) (λ k h. and-assoc (leb 5 (r .kind)) (ltb k (r .arity)) (eqb v (getD (r .args) k 0)))
+      ∙ any-under 8 (leb 5 (r .kind)) here
+      ∙ ap (λ (b : Bool). leb 5 (r .kind) && b) (ap (λ (n : ℕ). any n here) (sym l) ∙ sym (has-take v 0 (r .args) (r .arity)))
+    where
+      here : ℕ → Bool
+      here k = ltb k (r .arity) && eqb v (getD (r .args) k 0)

@@ -1,0 +1,199 @@
+-- The table's rows after passes from parent to child, the table while it is filled, and the test of refusal 12 by its marks.
+use Prim.Native.Nat.{ℕ, zero, suc, _+_, _*_, _/_, _%_, _≤_, _<_}
+use native.Mathlib.Nat.{eq-or-lt-of-le, not-suc-le-zero, le-of-suc-le-suc, zero-add}
+use native.Mathlib.Numerals.{add-one}
+use native.Mathlib.Omega.{arith}
+use mathlib.Core.Path.{_≡_, refl, sym, ap, ap₂, _∙_}
+use mathlib.Core.Logic.{_⊎_, inl, inr, _≢_, ⊎-elim}
+use mathlib.Core.Bool.{Bool, true, false, cond, _&&_, _||_, or-comm, false≢true}
+use mathlib.Core.List.{List, [], _∷_}
+use lib.Bits.{bitOr}
+use lib.Dec.{eqb, ltb}
+use lib.ListN.{length, getD, drop, set, replicate, length-set}
+use lib.Seq.{getD-set-same, getD-set-other}
+use borrow.Author.Tests.{eqb-true, eqb-false, eq-eqb, ne-eqb}
+use Rattle.laws.specs.Search.{clear}
+use Rattle.laws.specs.Lists.{All, all, has}
+use Rattle.laws.specs.Bits.{bit}
+use Rattle.laws.proofs.Search.{decided, and-join, or-right}
+use Rattle.laws.proofs.Lists.{All-drop, All-take, getD-All, all-same}
+use Rattle.laws.proofs.Bits.{bit-or}
+use Rattle.model.specs.Tree.{Array, nodeAt}
+use Rattle.model.specs.Formed.{children, binds, uses, inReach, refusal8, refusal9}
+use Rattle.records.specs.declared.Record.{Record}
+use Rattle.records.specs.declared.Trailer.{Trailer}
+use Rattle.records.specs.Record.{argsOf, recordOf, nodeOf, arrayOf}
+use Rattle.records.proofs.Laws.{node-of}
+use Rattle.model.proofs.Tree.{child-above}
+use Rattle.model.proofs.Reach.{parent, reach-root, reach-child}
+use Rattle.marks.specs.Marks.{marked}
+use Rattle.marks.proofs.Laws.{marked-none}
+use Rattle.scopes.specs.Scope.{passed, passIf, HandedDown}
+use Rattle.scopes.proofs.Laws.{children-of, uses-of}
+
+-- ---- rows passed down
+
+module _ (table : List ℕ) (from to : ℕ) (bound : List ℕ) where
+  pub passed-step : (n : ℕ) → passed table from to bound (n + 1)
+      ≡ set (passed table from to bound n) (4 * to + n) (bitOr (getD (passed table from to bound n) (4 * from + n) 0) (getD bound n 0))
+  unfolding passed
+  passed-step n = rw (add-one, passed)
+
+  passed-length : (n : ℕ) → length (passed table from to bound n) ≡ length table
+  unfolding passed
+  passed-length zero = refl
+  passed-length (suc n) = length-set (passed table from to bound n) _ _ ∙ passed-length n
+
+  -- words that are not written
+  passed-else : (n k : ℕ) → ((w : ℕ) → w < n → k ≢ 4 * to + w) → getD (passed table from to bound n) k 0 ≡ getD table k 0
+  unfolding passed
+  passed-else zero k ne = refl
+  passed-else (suc n) k ne =
+      getD-set-other (passed table from to bound n) _ k _ 0 (ne n (omega arith)) ∙ passed-else n k (λ w l. ne w (omega arith))
+
+  module _ (above : from < to) (fits : 4 * to + 3 < length table) where
+    -- words that are written
+    passed-at : (n w : ℕ) → n ≤ 4 → w < n → getD (passed table from to bound n) (4 * to + w) 0 ≡ bitOr (getD table (4 * from + w) 0) (getD bound w 0)
+    unfolding passed
+    passed-at zero w h l = absurd (not-suc-le-zero l)
+    passed-at (suc n) w h l =
+        ⊎-elim
+        (λ (q : w ≡ n).
+        rw q
+        (getD-set-same (passed table from to bound n) (4 * to + n) _ 0 (rw passed-length (omega arith))
+        ∙ ap (λ (x : ℕ). bitOr x (getD bound n 0)) (passed-else n (4 * from + n) (λ m g e. absurd (omega arith)))))
+        (λ (k : w < n).
+        getD-set-other (passed table from to bound n) (4 * to + n) (4 * to + w) _ 0 (λ e. absurd (omega arith)) ∙ passed-at n w (omega arith) k)
+        (eq-or-lt-of-le (le-of-suc-le-suc l))
+
+    marked-passed : (i v : ℕ) → v < 256
+        → marked (passed table from to bound 4) (4 * i) v ≡ cond (eqb i to) (marked table (4 * from) v || marked bound 0 v) (marked table (4 * i) v)
+    unfolding marked
+    marked-passed i v h = go (decided (eqb i to))
+      where
+        go : (eqb i to ≡ true) ⊎ (eqb i to ≡ false)
+            → marked (passed table from to bound 4) (4 * i) v ≡ cond (eqb i to) (marked table (4 * from) v || marked bound 0 v) (marked table (4 * i) v)
+        go (inl e) =
+            rw (e, eqb-true i to e, zero-add)
+            (ap (λ (x : ℕ). bit x (v % 64)) (passed-at 4 (v / 64) (omega arith) (omega arith))
+            ∙ bit-or (getD table (4 * from + v / 64) 0) (getD bound (v / 64) 0) (v % 64))
+        go (inr e) = rw e (ap (λ (x : ℕ). bit x (v % 64)) (passed-else 4 (4 * i + v / 64) (λ w l q. eqb-false i to e (omega arith))))
+
+passIf-length : (table : List ℕ) (on : Bool) (from to : ℕ) (bound : List ℕ) → length (passIf table on from to bound) ≡ length table
+unfolding passIf
+passIf-length table true from to bound = passed-length table from to bound 4
+passIf-length table false from to bound = refl
+
+marked-passIf : (table : List ℕ) (on : Bool) (from to : ℕ) (bound : List ℕ)
+    → (on ≡ true → (from < to) × (4 * to + 3 < length table)) → (i v : ℕ) → v < 256
+    → marked (passIf table on from to bound) (4 * i) v ≡ cond (on && eqb i to) (marked table (4 * from) v || marked bound 0 v) (marked table (4 * i) v)
+unfolding passIf
+marked-passIf table true from to bound fits i v h = marked-passed table from to bound (fits refl .0) (fits refl .1) i v h
+marked-passIf table false from to bound fits i v h = refl
+
+-- two passes from one row to others
+marked-twice : (table : List ℕ) (p q : Bool) (j l r : ℕ) (bound : List ℕ)
+    → (p ≡ true → (j < l) × (4 * l + 3 < length table)) → (q ≡ true → (j < r) × (4 * r + 3 < length table)) → (i v : ℕ) → v < 256
+    → marked (passIf (passIf table p j l bound) q j r bound) (4 * i) v
+    ≡ cond ((p && eqb i l) || (q && eqb i r)) (marked table (4 * j) v || marked bound 0 v) (marked table (4 * i) v)
+marked-twice table p q j l r bound fl fr i v h =
+    marked-passIf once q j r bound (λ e. let f = fr e in (f .0, rw (passIf-length table p j l bound) (f .1))) i v h
+    ∙ ap (λ (b : Bool). cond (q && eqb i r) (b || marked bound 0 v) (marked once (4 * i) v))
+    (marked-passIf table p j l bound fl j v h ∙ ap (λ (b : Bool). cond b new (marked table (4 * j) v)) (own p fl))
+    ∙ ap (cond (q && eqb i r) new) (marked-passIf table p j l bound fl i v h)
+    ∙ merge (p && eqb i l) (q && eqb i r)
+  where
+    once : List ℕ
+    once = passIf table p j l bound
+
+    new : Bool
+    new = marked table (4 * j) v || marked bound 0 v
+
+    -- the first pass leaves row j
+    own : (b : Bool) → (b ≡ true → (j < l) × (4 * l + 3 < length table)) → b && eqb j l ≡ false
+    own true f = let g = f refl .0 in ne-eqb j l (λ e. absurd (omega arith))
+    own false f = refl
+
+    merge : (b c : Bool) → cond c new (cond b new (marked table (4 * i) v)) ≡ cond (b || c) new (marked table (4 * i) v)
+    merge true true = refl
+    merge true false = refl
+    merge false c = refl
+
+module _ (table : List ℕ) (j : ℕ) (r : Record) (fits : (c : ℕ) → has (children (nodeOf r)) c ≡ true → (j < c) × (4 * c + 3 < length table)) where
+  pub left-fits : ltb 0 (r .kind) ≡ true → (j < r .left) × (4 * r .left + 3 < length table)
+  left-fits e = fits (r .left) (children-of r (r .left) ∙ rw (e, eq-eqb (r .left) (r .left) refl))
+
+  pub right-fits : eqb (r .kind) 2 || eqb (r .kind) 3 ≡ true → (j < r .right) × (4 * r .right + 3 < length table)
+  right-fits e =
+      let here = and-join e (eq-eqb (r .right) (r .right) refl) in
+      fits (r .right) (children-of r (r .right) ∙ or-right (ltb 0 (r .kind) && eqb (r .right) (r .left)) _ here)
+
+  -- the two children that there may be
+  pub handed-down : (bound : List ℕ) → ((v : ℕ) → v < 256 → marked bound 0 v ≡ has (binds (nodeOf r)) v)
+      → HandedDown table (passIf (passIf table (ltb 0 (r .kind)) j (r .left) bound) (eqb (r .kind) 2 || eqb (r .kind) 3) j (r .right) bound) j (nodeOf r)
+  handed-down bound b = record {
+    rows = λ i v h.
+        marked-twice table (ltb 0 (r .kind)) (eqb (r .kind) 2 || eqb (r .kind) 3) j (r .left) (r .right) bound left-fits right-fits i v h
+        ∙ ap₂ (λ (c m : Bool). cond c (marked table (4 * j) v || m) (marked table (4 * i) v)) (sym (children-of r i)) (b v h);
+  }
+
+-- ---- the table while it is filled
+
+-- the row of every node whose parent, where it has one, is below j
+abbrev pub Filled : Array → List ℕ → ℕ → Type 0
+Filled a table j =
+    (i v : ℕ) → i < a .size → v < 256 → ((p : ℕ) → has (children (nodeAt a p)) i ≡ true → p < j) → marked table (4 * i) v ≡ inReach a v i
+
+module _ (a : Array) (fit : refusal8 a ≡ clear) (once : refusal9 a ≡ clear) where
+  pub filled-start : (n : ℕ) → Filled a (replicate n 0) 0
+  filled-start n i v h k above = marked-none n (4 * i) v ∙ go (decided (eqb i 0))
+    where
+      go : (eqb i 0 ≡ true) ⊎ (eqb i 0 ≡ false) → false ≡ inReach a v i
+      go (inl e) = rw (eqb-true i 0 e) (sym (reach-root a fit once v))
+      go (inr e) = let p = parent a fit once i h (eqb-false i 0 e) in absurd (not-suc-le-zero (above (p .0) (p .2)))
+
+  pub filled-step : (before after : List ℕ) (j : ℕ) → j < a .size → HandedDown before after j (nodeAt a j) → Filled a before j → Filled a after (j + 1)
+  filled-step before after j hj down filled i v h k above = down .rows i v k ∙ go (decided (has (children (nodeAt a j)) i))
+    where
+      go : (has (children (nodeAt a j)) i ≡ true) ⊎ (has (children (nodeAt a j)) i ≡ false)
+          → cond (has (children (nodeAt a j)) i) (marked before (4 * j) v || has (binds (nodeAt a j)) v) (marked before (4 * i) v) ≡ inReach a v i
+      go (inl e) =
+          rw e
+          (ap (λ (b : Bool). b || has (binds (nodeAt a j)) v) (filled j v hj k (λ p q. child-above a fit p j q .0))
+          ∙ or-comm (inReach a v j) (has (binds (nodeAt a j)) v) ∙ sym (reach-child a fit once j i v e))
+      go (inr e) = rw e (filled i v h k (λ p q. earlier p q))
+        where
+          earlier : (p : ℕ) → has (children (nodeAt a p)) i ≡ true → p < j
+          earlier p q =
+              ⊎-elim (λ (s : p ≡ j). absurd (false≢true (sym e ∙ (rw s at q)))) (λ (s : p < j). s) (eq-or-lt-of-le (omega (arith, above p q)))
+
+  pub filled-all : (table : List ℕ) (j : ℕ) → a .size ≤ j → Filled a table j → (i v : ℕ) → i < a .size → v < 256 → marked table (4 * i) v ≡ inReach a v i
+  filled-all table j l filled i v h k = filled i v h k (λ p q. let f = child-above a fit p i q in omega arith)
+
+-- ---- the test of refusal 12 by the table
+
+-- the node at a number below M is what its record, once read, stands for
+pub node-read : (s : List ℕ) (t : Trailer) (i : ℕ) (r : Record) → i < t .nodes → r ≡ recordOf s t i → nodeAt (arrayOf s t) i ≡ nodeOf r
+node-read s t i r h e = node-of s t i h ∙ ap nodeOf (sym e)
+
+module _ (s : List ℕ) (t : Trailer) (bytes : (k : ℕ) → getD s k 0 < 256) where
+  uses-bytes : (i : ℕ) → All (λ v. v < 256) (uses (nodeOf (recordOf s t i)))
+  uses-bytes i = rw (uses-of (recordOf s t i)) (go (ltb (recordOf s t i .kind) 4) (eqb (recordOf s t i .kind) 4))
+    where
+      args : All (λ v. v < 256) (argsOf (recordOf s t i))
+      args =
+          let rest = All-drop (λ v. v < 256) (t .start + 16 * i + 8) s (getD-All (λ v. v < 256) s 0 bytes) in
+          All-take (λ v. v < 256) (recordOf s t i .arity) (recordOf s t i .args) (All-take (λ v. v < 256) 8 (drop (t .start + 16 * i + 8) s) rest)
+
+      go : (a b : Bool) → All (λ v. v < 256) (cond a [] (recordOf s t i .name ∷ cond b (argsOf (recordOf s t i)) []))
+      go true b = tt
+      go false true = (bytes (t .start + 16 * i + 6), args)
+      go false false = (bytes (t .start + 16 * i + 6), tt)
+
+  -- where the table's rows are right, its marks answer for node i, whose record is r
+  pub uses-reached : (table : List ℕ) → ((i v : ℕ) → i < t .nodes → v < 256 → marked table (4 * i) v ≡ inReach (arrayOf s t) v i)
+      → (i : ℕ) (r : Record) → i < t .nodes → r ≡ recordOf s t i
+      → all (marked table (4 * i)) (uses (nodeOf r)) ≡ all (λ v. inReach (arrayOf s t) v i) (uses (nodeAt (arrayOf s t) i))
+  uses-reached table right i r h e =
+      rw (node-read s t i r h e, e)
+      (all-same (λ v. v < 256) (marked table (4 * i)) (λ v. inReach (arrayOf s t) v i) (uses (nodeOf (recordOf s t i))) (uses-bytes i) (λ v k. right i v h k))

@@ -1,0 +1,47 @@
+-- `scopes::bound_by` meets its contract: a row without marks, then the name of a new, then the parameters, are what the record binds.
+use Prim.Native.Nat.{ℕ}
+use mathlib.Core.Path.{refl, sym, ap, _∙_}
+use mathlib.Core.Bool.{Bool, _&&_, _||_}
+use mathlib.Core.List.{List}
+use lib.Dec.{eqb}
+use lib.ListN.{replicate}
+use borrow.Author.Needs.{needs}
+use Rattle.marks.specs.Marks.{marked}
+use Rattle.marks.proofs.Laws.{marked-none, marked-more}
+use Rattle.scopes.specs.Scope.{isParam}
+use Rattle.scopes.proofs.Laws.{binds-of}
+use Rattle.scopes.proofs.bound_by.Statement.{statement}
+use Rattle.scopes.proofs.bound_by.Tie as tie
+
+slice-aggregate-mark-if : tie.Need-slice-aggregate-mark-if
+slice-aggregate-mark-if c = search needs
+
+mark-if-requires : tie.Need-mark-if-requires
+mark-if-requires c κs = search needs
+
+slice-aggregate-mark-params : tie.Need-slice-aggregate-mark-params
+slice-aggregate-mark-params c = search needs
+
+mark-params-requires : tie.Need-mark-params-requires
+mark-params-requires c κs = search needs
+
+returns : tie.Need-returns
+returns c v h =
+    let start = c .before .before .before .before .before .before .before in
+    let r = start .args .r in
+    c .before .mark-params .ensures v h
+    ∙ ap (λ (b : Bool). b || isParam r v)
+    (ap (λ (row : List ℕ). marked row 0 v) (c .before .before .before .before .mark-if .ensures)
+    ∙ marked-more (replicate 4 0) (eqb (r .kind) 1) (r .name) v refl (start .pre)
+    ∙ ap (λ (b : Bool). b || (eqb (r .kind) 1 && eqb v (r .name))) (marked-none 4 0 v))
+    ∙ sym (binds-of r v)
+
+pub bound-by-spec : {M : Type 1} → statement M
+bound-by-spec =
+    tie.close
+    (tie.spec
+    slice-aggregate-mark-if
+    mark-if-requires
+    slice-aggregate-mark-params
+    mark-params-requires
+    returns)

@@ -1,0 +1,101 @@
+-- `scopes::pass_down` meets its contract. The loop's invariant: the table is the one passed in with the first w words written.
+use Prim.Native.Nat.{ℕ, _+_, _*_, _≤_, _-_}
+use native.Mathlib.Omega.{arith}
+use mathlib.Core.Path.{_≡_, refl, sym, ap, _∙_}
+use mathlib.Core.List.{List}
+use denote.Ref.{now}
+use lib.Bits.{bitOr}
+use lib.ListN.{length, getD, set, length-set}
+use borrow.Author.Needs.{needs}
+use Rattle.scopes.specs.Scope.{passed}
+use Rattle.scopes.proofs.Table.{passed-step}
+use Rattle.scopes.proofs.pass_down.Statement.{statement}
+use Rattle.scopes.proofs.pass_down.Tie as tie
+
+abbrev Inv-loop : tie.InvT-loop
+Inv-loop table₀ from to bound w₀ table w = (w ≤ 4) × (length table ≡ length table₀) × (table ≡ passed table₀ from to bound w)
+
+abbrev μ-loop : tie.MeasureT-loop
+μ-loop table₀ from to bound w₀ table w = 4 - w
+
+loop-holds : tie.Need-loop-holds Inv-loop μ-loop
+unfolding passed
+loop-holds c = (omega arith, refl, refl)
+
+mul-table : tie.Need-mul-table Inv-loop μ-loop
+mul-table c = search needs
+
+add-table : tie.Need-add-table Inv-loop μ-loop
+add-table c = search needs
+
+mul-table-2 : tie.Need-mul-table-2 Inv-loop μ-loop
+mul-table-2 c = search needs
+
+slice-read-table : tie.Need-slice-read-table Inv-loop μ-loop
+slice-read-table c = search needs
+
+mul-table-3 : tie.Need-mul-table-3 Inv-loop μ-loop
+mul-table-3 c = search needs
+
+array-read-table : tie.Need-array-read-table Inv-loop μ-loop
+array-read-table c = search needs
+
+mul-table-4 : tie.Need-mul-table-4 Inv-loop μ-loop
+mul-table-4 c = search needs
+
+add-table-2 : tie.Need-add-table-2 Inv-loop μ-loop
+add-table-2 c = search needs
+
+mul-table-5 : tie.Need-mul-table-5 Inv-loop μ-loop
+mul-table-5 c = search needs
+
+slice-write-table : tie.Need-slice-write-table Inv-loop μ-loop
+slice-write-table c = search needs
+
+add-w : tie.Need-add-w Inv-loop μ-loop
+add-w c = search needs
+
+loop-less : tie.Need-loop-less Inv-loop μ-loop
+loop-less c = search needs
+
+loop-again : tie.Need-loop-again Inv-loop μ-loop
+loop-again c =
+    let x = c .before .before .before .args in
+    let l = c .before .before .loop in (
+      omega arith,
+      length-set (l .table) _ _ ∙ l .inv .1,
+      ap (λ (t : List ℕ). set t (4 * x .to + l .w) (bitOr (getD t (4 * x .from + l .w) 0) (getD (x .t4) (l .w) 0))) (l .inv .2)
+          ∙ sym (passed-step (now (x .table)) (x .from) (x .to) (x .t4) (l .w)),
+    )
+
+same-length : tie.Need-same-length Inv-loop μ-loop
+same-length c = search needs
+
+returns : tie.Need-returns Inv-loop μ-loop
+returns c =
+    let x = c .before .before .args in
+    let e : c .before .loop .w ≡ 4 = omega arith in
+    c .before .loop .inv .2 ∙ ap (passed (now (x .table)) (x .from) (x .to) (x .t4)) e
+
+pub pass-down-spec : {M : Type 1} → statement M
+pass-down-spec =
+    tie.close
+    (tie.spec
+    Inv-loop
+    μ-loop
+    loop-holds
+    mul-table
+    add-table
+    mul-table-2
+    slice-read-table
+    mul-table-3
+    array-read-table
+    mul-table-4
+    add-table-2
+    mul-table-5
+    slice-write-table
+    add-w
+    loop-less
+    loop-again
+    same-length
+    returns)
