@@ -2,7 +2,7 @@
 -- kind, and the array that the bytes stand for is well formed. From `formed` the model's laws give the rest: children above parents
 -- and below M (Tree.child-above), one parent for each node but 0 (Reach.parent, Reach.one-parent), names below N (Tree.names-below),
 -- one binder for each name (Reach.binder, Reach.one-binder), uses within reach (Closed.use-reach), no free name at the root (Closed.closed).
-use Prim.Native.Nat.{ℕ, _+_, _*_, _-_, _/_, _≤_, _<_}
+use Prim.Native.Nat.{ℕ, _+_, _*_, _≤_, _<_}
 use mathlib.Core.Path.{_≡_, refl, sym, ap, ap₂, _∙_, subst}
 use mathlib.Core.Bool.{true, false, _&&_, _||_}
 use mathlib.Core.List.{List}
@@ -11,26 +11,15 @@ use lib.ListN.{length}
 use borrow.Author.Tests.{leb-true, eqb-true}
 use Rattle.laws.specs.Search.{Found, clear, hit}
 use Rattle.laws.proofs.Search.{and-split, test-clear, clear-test, first-clear, andThen-split, clear-andThen}
-use Rattle.wire.specs.Numbers.{wordSum}
 use Rattle.model.specs.Formed as F
-use Rattle.model.specs.Formed.{WellFormed}
 use Rattle.records.specs.declared.Trailer.{Trailer}
+use Rattle.records.specs.declared.Refusal.{Refusal}
 use Rattle.records.specs.declared.Check.{Check}
 use Rattle.records.specs.Record.{recordOf, arrayOf, foundOf}
 use Rattle.fields.specs.Fields.{shapeFits, refusal6, refusal7}
 use Rattle.arrays.specs.declared.ArrayAnswer.{ArrayAnswer}
 use Rattle.arrays.specs.declared.ArrayAnswer.the-variants.{Read, Refused}
-use Rattle.arrays.specs.File.{trailerOf, lengthFits, countsFit, startFits, refusal1, from2, arrayRefusal, answer, readArray}
-
--- file s was read, and its trailer says t
-pub record IsRead (s : List ℕ) (t : Trailer) : Type 0 where
-  pub trailer : t ≡ trailerOf s
-  pub start : t .start ≤ 1024
-  pub fills : t .start + 16 * t .nodes + 16 ≡ length s
-  pub sum : t .sum ≡ wordSum s ((length s - 8) / 4)
-  pub shapes : refusal6 s t ≡ clear
-  pub unused : refusal7 s t ≡ clear
-  pub formed : WellFormed (arrayOf s t)
+use Rattle.arrays.specs.File.{trailerOf, lengthFits, countsFit, startFits, refusal1, from2, arrayRefusal, answer, readArray, IsRead}
 
 -- ---- what the tests of the trailer say
 
@@ -55,10 +44,22 @@ answered-by s t x fits e found =
 
 -- ---- a file that was read
 
--- an answer that is no refusal
+-- what an answer says of the search
 answered : (f : Found F.Refusal) (t u : Trailer) → answer f t ≡ Read u → (f ≡ clear) × (t ≡ u)
 answered clear t u e = (refl, cc)
 answered (hit r) t u e = (cc, cc)
+
+denied : (f : Found F.Refusal) (t : Trailer) (r : Refusal) → answer f t ≡ Refused r → f ≡ hit record { number = r .number; place = r .place }
+denied clear t r e = cc
+denied (hit q) t r e = let p : _≡_ {A = Refusal} record { number = q .number; place = q .place } r = cc in rw (← p)
+
+pub read-passes : (s : List ℕ) (t : Trailer) → readArray s ≡ Read t → (arrayRefusal s ≡ clear) × (trailerOf s ≡ t)
+unfolding readArray
+read-passes s t e = answered (arrayRefusal s) (trailerOf s) t e
+
+pub read-refuses : (s : List ℕ) (r : Refusal) → readArray s ≡ Refused r → arrayRefusal s ≡ hit record { number = r .number; place = r .place }
+unfolding readArray
+read-refuses s r e = denied (arrayRefusal s) (trailerOf s) r e
 
 module _ (s : List ℕ) (passed : arrayRefusal s ≡ clear) where
   passed-read : IsRead s (trailerOf s)
@@ -96,8 +97,7 @@ module _ (s : List ℕ) (passed : arrayRefusal s ≡ clear) where
       }
 
 pub read-is : (s : List ℕ) (t : Trailer) → readArray s ≡ Read t → IsRead s t
-unfolding readArray
-read-is s t e = let a = answered (arrayRefusal s) (trailerOf s) t e in subst (IsRead s) (a .1) (passed-read s (a .0))
+read-is s t e = let a = read-passes s t e in subst (IsRead s) (a .1) (passed-read s (a .0))
 
 -- a record of a file that was read has a kind up to 6 and an arity up to 8, and only agents have one
 module _ (s : List ℕ) (t : Trailer) (r : IsRead s t) (i : ℕ) (h : i < t .nodes) where

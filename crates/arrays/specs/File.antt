@@ -8,7 +8,7 @@ use lib.ListN.{length, take}
 use Rattle.laws.specs.Search.{Found, clear, hit, andThen}
 use Rattle.wire.specs.Numbers.{u16At, u32At, wordSum}
 use Rattle.model.specs.Formed as F
-use Rattle.model.specs.Formed.{refuse, refusal8, refusal9, refusal10, refusal11, refusal12}
+use Rattle.model.specs.Formed.{WellFormed, refuse, refusal8, refusal9, refusal10, refusal11, refusal12}
 use Rattle.records.specs.declared.Trailer.{Trailer}
 use Rattle.records.specs.Record.{arrayOf}
 use Rattle.fields.specs.Fields.{refusal6, refusal7}
@@ -88,6 +88,18 @@ remarkIn (Refused r) s = []
 
 abbrev pub remarkOf : List ℕ → List ℕ
 remarkOf s = remarkIn (readArray s) s
+
+-- ---- a file that was read
+
+-- file s was read, and its trailer says t
+pub record IsRead (s : List ℕ) (t : Trailer) : Type 0 where
+  pub trailer : t ≡ trailerOf s
+  pub start : t .start ≤ 1024
+  pub fills : t .start + 16 * t .nodes + 16 ≡ length s
+  pub sum : t .sum ≡ wordSum s ((length s - 8) / 4)
+  pub shapes : refusal6 s t ≡ clear
+  pub unused : refusal7 s t ≡ clear
+  pub formed : WellFormed (arrayOf s t)
 
 -- ---- the rest of the search, from a refusal on
 

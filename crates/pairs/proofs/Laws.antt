@@ -1,0 +1,228 @@
+-- What the checker's lists say of agents, live pairs and figures.
+use Prim.Native.Nat.{ℕ, zero, suc, _+_, _*_, _≤_, _<_}
+use native.Mathlib.Nat.{not-suc-le-zero}
+use native.Mathlib.Omega.{arith}
+use mathlib.Core.Path.{_≡_, refl, sym, ap, ap₂, _∙_, subst}
+use mathlib.Core.Logic.{_⊎_, inl, inr, ⊎-elim}
+use mathlib.Core.Bool.{Bool, true, false, cond, not, _&&_, _||_, true≢false, false≢true}
+use mathlib.Core.List.{List, [], _∷_}
+use mathlib.Core.Option.{Option, none, some}
+use lib.Dec.{eqb, leb, ltb}
+use lib.ListN.{length, getD, take}
+use lib.Seq.{length-take-le, getD-take}
+use borrow.Author.Tests.{ltb-true, ltb-false, leb-true, eqb-true, eqb-false, eq-eqb, ne-eqb, le-ltb, lt-ltb}
+use Rattle.laws.specs.Search.{Found, clear, hit, under, first, every, any}
+use Rattle.laws.specs.Lists.{All}
+use Rattle.laws.proofs.Search.{decided, and-split, any-same, every-same, clear-under}
+use Rattle.laws.proofs.Lists.{All-getD}
+use Rattle.marks.specs.Marks.{marked, share, inside}
+use Rattle.model.specs.Tree.{Array, Sort, out, inp, resource, Node, nodeAt, Proc, procAt, Agent, agentAt, receives, load}
+use Rattle.model.specs.Nodes.{loadOf, agentOf}
+use Rattle.model.specs.Formed.{children, WellFormed}
+use Rattle.model.specs.Rules.{Table, Balance, rowBits, Live, live, shareBit, fitBoth, within, taken, loadLeft, weightGone, Verdict, onLive}
+use Rattle.model.proofs.Tree.{child-above, wf-procAt, agent-tree, Wf, AgentWf}
+use Rattle.model.proofs.Nodes.{load-at, agent-at}
+use Rattle.model.proofs.Verdict.{live-Live}
+use Rattle.laws.proofs.Lists.{has-here}
+use Rattle.records.specs.declared.Record.{Record}
+use Rattle.records.specs.declared.Trailer.{Trailer}
+use Rattle.records.specs.Record.{recordOf, argsOf, nodeOf, arrayOf}
+use Rattle.records.proofs.Laws.{by-kind, kind-above, eight-args, node-of}
+use Rattle.arrays.proofs.Laws.{arity-small}
+use Rattle.layout.specs.declared.Sizes.{Sizes}
+use Rattle.layout.specs.Table.{rowBit, tableOf}
+use Rattle.pairs.specs.Pairs.{sortOf, agentIn, Reads, Ready, figures, figureHolds, argumentHolds, balanceHolds}
+
+-- ---- records of agents
+
+-- kinds 4 and up
+agent-node : (r : Record) → 4 ≤ r .kind → nodeOf r ≡ Node.agent (sortOf (r .kind)) (r .name) (argsOf r) (r .left)
+agent-node r =
+    by-kind r (λ k n. 4 ≤ k → n ≡ Node.agent (sortOf k) (r .name) (argsOf r) (r .left))
+    (λ h. absurd (omega arith)) (λ h. absurd (omega arith)) (λ h. absurd (omega arith)) (λ h. absurd (omega arith)) (λ h. refl) (λ h. refl)
+    (λ k l h. rw (kind-above k 4 l (omega arith), kind-above k 5 l (omega arith)))
+
+-- a kind sends exactly where it is 4
+receives-kind : (k : ℕ) → receives (sortOf k) ≡ not (eqb k 4)
+unfolding receives
+receives-kind k = go (eqb k 4) (eqb k 5)
+  where
+    go : (b c : Bool) → receives (cond b out (cond c inp resource)) ≡ not b
+    go true c = refl
+    go false true = refl
+    go false false = refl
+
+-- an in's weight goes, a resource's stays
+taken-kind : (k : ℕ) → 5 ≤ k → (w : ℕ) → cond (eqb k 5) w 0 ≡ taken (sortOf k) w
+unfolding taken
+taken-kind k h w = rw (ne-eqb k 4 (λ e. absurd (omega arith))) (go (eqb k 5))
+  where
+    go : (b : Bool) → cond b w 0 ≡ taken (cond b inp resource) w
+    go true = refl
+    go false = refl
+
+module _ (a : Array) (f : ℕ → Proc) (r : Record) where
+  agent-some : 4 ≤ r .kind → agentOf f (nodeOf r) ≡ some record { sort = sortOf (r .kind); channel = r .name; args = argsOf r; body = f (r .left) }
+  unfolding agentOf
+  agent-some h = rw (agent-node r h)
+
+  agent-none : r .kind < 4 → agentOf f (nodeOf r) ≡ none
+  unfolding agentOf
+  agent-none = by-kind r (λ k n. k < 4 → agentOf f n ≡ none) (λ h. refl) (λ h. refl) (λ h. refl) (λ h. refl) (λ h. absurd (omega arith)) (λ h. absurd (omega arith)) (λ k l h. absurd (omega arith))
+
+module _ (f : List ℕ) (t : Trailer) (s : List ℕ) (z : Sizes) (rows loads bounds : List ℕ) (ready : Ready f t s z rows loads bounds) where
+  abbrev a : Array
+  a = arrayOf f t
+
+  abbrev T : Table
+  T = tableOf s z
+
+  wf : WellFormed a
+  wf = ready .array .formed
+
+  pub node-is : (i : ℕ) (r : Record) → Reads f t i r → nodeAt a i ≡ nodeOf r
+  node-is i r h = node-of f t i (h .below) ∙ ap nodeOf (sym (h .is))
+
+  pub agent-is : (i : ℕ) (r : Record) → Reads f t i r → 4 ≤ r .kind → agentAt a i ≡ some (agentIn a r)
+  agent-is i r h k =
+      agent-at a (wf .children) i (h .below) ∙ ap (agentOf (λ l. procAt a l)) (node-is i r h) ∙ agent-some a (λ l. procAt a l) r k
+
+  pub no-agent : (i : ℕ) (r : Record) → Reads f t i r → r .kind < 4 → agentAt a i ≡ none
+  no-agent i r h k = agent-at a (wf .children) i (h .below) ∙ ap (agentOf (λ l. procAt a l)) (node-is i r h) ∙ agent-none a (λ l. procAt a l) r k
+
+  -- a record has as many arguments as its arity says, at most 8
+  pub small-arity : (i : ℕ) (r : Record) → Reads f t i r → r .arity ≤ 8
+  small-arity i r h = rw (h .is) (arity-small f t (ready .array) i (h .below))
+
+  pub arity-is : (i : ℕ) (r : Record) → Reads f t i r → length (argsOf r) ≡ r .arity
+  arity-is i r h =
+      let e : length (recordOf f t i .args) ≡ 8 = eight-args f (t .start + 16 * i) (let l = h .below in omega (arith, ready .array .fills)) in
+      rw (h .is) (length-take-le (recordOf f t i .arity) (recordOf f t i .args) (omega (arith, arity-small f t (ready .array) i (h .below))))
+
+  pub arg-is : (r : Record) (n : ℕ) → n < r .arity → getD (argsOf r) n 0 ≡ getD (r .args) n 0
+  arg-is r n h = getD-take (r .arity) (r .args) n 0 h
+
+  -- its names are below N
+  named : (i : ℕ) (r : Record) → Reads f t i r → 4 ≤ r .kind → AgentWf a i (sortOf (r .kind)) (r .name) (argsOf r) (procAt a (r .left))
+  named i r h k =
+      (rw (agent-tree a (wf .children) i (agentIn a r) (agent-is i r h k)) at (wf-procAt a (wf .children) (wf .named) i (h .below))) .0
+
+  pub name-below : (i : ℕ) (r : Record) → Reads f t i r → 4 ≤ r .kind → r .name < z .names
+  name-below i r h k = rw (ready .table .laid .names) (named i r h k .channel)
+
+  pub arg-below : (i : ℕ) (r : Record) → Reads f t i r → 4 ≤ r .kind → (n : ℕ) → n < r .arity → getD (r .args) n 0 < z .names
+  arg-below i r h k n l =
+      let e = arity-is i r h in
+      let b = All-getD (λ y. y < t .names) (argsOf r) n 0 (named i r h k .args) (omega arith) in
+      rw (← arg-is r n l, ready .table .laid .names) b
+
+  -- its continuation is a node
+  pub left-below : (i : ℕ) (r : Record) → Reads f t i r → 4 ≤ r .kind → r .left < t .nodes
+  unfolding children
+  left-below i r h k = child-above a (wf .children) i (r .left) (rw (node-is i r h, agent-node r k) (has-here (r .left) [])) .1
+
+  -- its load is its weight
+  pub load-agent : (i : ℕ) (r : Record) → Reads f t i r → 4 ≤ r .kind → (w : ℕ → ℕ) → load w (procAt a i) ≡ w i
+  unfolding loadOf
+  load-agent i r h k w = load-at a (wf .children) i (h .below) w ∙ ap (loadOf w i (λ l. load w (procAt a l))) (node-is i r h ∙ agent-node r k)
+
+  pub weight-is : (i : ℕ) (r : Record) → Reads f t i r → 4 ≤ r .kind → (n : ℕ) → n < z .balances → getD loads (24 * i + n) 0 ≡ (T .balance n) .weight i
+  weight-is i r h k n l = ready .weighs i n (h .below) l ∙ load-agent i r h k ((T .balance n) .weight)
+
+  -- ---- rows
+
+  names-few : z .names ≤ 256
+  names-few = let e = ready .table .laid .names in omega (arith, wf .fewNames)
+
+  pub row-fits : (v : ℕ) → v < z .names → 4 * v + 3 < length rows
+  row-fits v h = let n = names-few in let e = ready .manyRows in omega arith
+
+  pub share-is : (u v : ℕ) → u < z .names → v < z .names → share rows (4 * u) (4 * v) ≡ shareBit T u v
+  unfolding share shareBit
+  share-is u v hu hv = any-same rowBits _ _ (λ o h. ap₂ _&&_ (ready .marks u o hu h) (ready .marks v o hv h))
+
+  pub inside-is : (u v : ℕ) → u < z .names → v < z .names → inside rows (4 * u) rows (4 * v) ≡ within T u v
+  unfolding inside within
+  inside-is u v hu hv = every-same rowBits _ _ (λ o h. ap₂ (λ (x y : Bool). not x || y) (ready .marks u o hu h) (ready .marks v o hv h))
+
+  -- ---- live pairs: receiver p of kind 5 or above, and q
+
+  module _ (p : ℕ) (rp : Record) (hp : Reads f t p rp) (kp : 5 ≤ rp .kind) (q : ℕ) (rq : Record) (hq : Reads f t q rq) where
+    receives-p : receives (sortOf (rp .kind)) ≡ true
+    receives-p = receives-kind (rp .kind) ∙ ap not (ne-eqb (rp .kind) 4 (λ e. absurd (omega arith)))
+
+    receiver-is : agentAt a p ≡ some (agentIn a rp)
+    receiver-is = agent-is p rp hp (omega arith)
+
+    -- a pair whose second node is no out
+    pub live-else : (rq .kind ≡ 4 → ⊥) → live T p q (agentIn a rp) (agentIn a rq) ≡ false
+    unfolding live
+    live-else n = rw (receives-p, receives-kind (rq .kind), ne-eqb (rq .kind) 4 n)
+
+    fits-is : rq .kind ≡ 4
+        → fitBoth T p q ≡ every (z .balances) (λ k. leb (getD loads (24 * p + k) 0 + getD loads (24 * q + k) 0) (getD bounds k 0))
+    unfolding fitBoth
+    fits-is e =
+        every-same (z .balances) _ _ (λ k h.
+        ap₂ leb (ap₂ _+_ (sym (weight-is p rp hp (omega arith) k h)) (sym (weight-is q rq hq (omega arith) k h))) (sym (ready .bears k h)))
+
+    live-out : rq .kind ≡ 4 → live T p q (agentIn a rp) (agentIn a rq)
+        ≡ (eqb (rp .arity) (rq .arity) && share rows (4 * rp .name) (4 * rq .name))
+        && every (z .balances) (λ k. leb (getD loads (24 * p + k) 0 + getD loads (24 * q + k) 0) (getD bounds k 0))
+    unfolding live
+    live-out e =
+        let sh = share-is (rp .name) (rq .name) (name-below p rp hp (omega arith)) (name-below q rq hq (omega arith)) in
+        rw (receives-p, receives-kind (rq .kind), eq-eqb (rq .kind) 4 e, arity-is p rp hp, arity-is q rq hq, ← sh, fits-is e)
+
+    -- one test after another
+    pub live-arity : rq .kind ≡ 4 → (rp .arity ≡ rq .arity → ⊥) → live T p q (agentIn a rp) (agentIn a rq) ≡ false
+    live-arity e n = live-out e ∙ rw (ne-eqb (rp .arity) (rq .arity) n)
+
+    module _ (e : rq .kind ≡ 4) (n : rp .arity ≡ rq .arity) where
+      pub live-unshared : share rows (4 * rp .name) (4 * rq .name) ≡ false → live T p q (agentIn a rp) (agentIn a rq) ≡ false
+      live-unshared h = live-out e ∙ rw (eq-eqb (rp .arity) (rq .arity) n, h)
+
+      pub live-fits : share rows (4 * rp .name) (4 * rq .name) ≡ true → live T p q (agentIn a rp) (agentIn a rq)
+          ≡ every (z .balances) (λ k. leb (getD loads (24 * p + k) 0 + getD loads (24 * q + k) 0) (getD bounds k 0))
+      live-fits h = live-out e ∙ rw (eq-eqb (rp .arity) (rq .arity) n, h)
+
+    -- what a live pair is
+    pub live-sends : live T p q (agentIn a rp) (agentIn a rq) ≡ true → rq .kind ≡ 4
+    live-sends l = ⊎-elim (λ (e : eqb (rq .kind) 4 ≡ true). eqb-true _ _ e) (λ (e : eqb (rq .kind) 4 ≡ false). absurd (true≢false (sym l ∙ live-else (eqb-false _ _ e)))) (decided (eqb (rq .kind) 4))
+
+    pub live-arities : live T p q (agentIn a rp) (agentIn a rq) ≡ true → rp .arity ≡ rq .arity
+    live-arities l = sym (arity-is p rp hp) ∙ live-Live T p q (agentIn a rp) (agentIn a rq) l .arities ∙ arity-is q rq hq
+
+    -- a search at the pair, by the two records
+    pub pair-is : (g : Agent → Agent → Verdict) → onLive T p q (agentAt a p) (agentAt a q) g
+        ≡ under (live T p q (agentIn a rp) (agentIn a rq)) (g (agentIn a rp) (agentIn a rq))
+    unfolding onLive under
+    pair-is g = ⊎-elim some-agent no-agent-q (decided (ltb (rq .kind) 4))
+      where
+        no-agent-q : ltb (rq .kind) 4 ≡ false → onLive T p q (agentAt a p) (agentAt a q) g ≡ under (live T p q (agentIn a rp) (agentIn a rq)) (g (agentIn a rp) (agentIn a rq))
+        no-agent-q e = rw (receiver-is, agent-is q rq hq (ltb-false _ _ e))
+
+        some-agent : ltb (rq .kind) 4 ≡ true → onLive T p q (agentAt a p) (agentAt a q) g ≡ under (live T p q (agentIn a rp) (agentIn a rq)) (g (agentIn a rp) (agentIn a rq))
+        some-agent e =
+            let k = ltb-true _ _ e in
+            rw (receiver-is, no-agent q rq hq k, live-else (λ d. absurd (omega arith)))
+
+    -- ---- figures of a live pair
+
+    module _ (l : live T p q (agentIn a rp) (agentIn a rq) ≡ true) where
+      pub argument-is : (n : ℕ) → n < rp .arity → argumentHolds rows rp rq n ≡ within T (getD (argsOf rq) n 0) (getD (argsOf rp) n 0)
+      argument-is n h =
+          let e = live-arities l in
+          let k = live-sends l in
+          let hq′ : n < rq .arity = omega arith in
+          inside-is (getD (rq .args) n 0) (getD (rp .args) n 0) (arg-below q rq hq (omega arith) n hq′) (arg-below p rp hp (omega arith) n h)
+          ∙ ap₂ (within T) (sym (arg-is rq n hq′)) (sym (arg-is rp n h))
+
+      pub balance-is : (n : ℕ) → n < z .balances
+          → balanceHolds loads p rp q rq n ≡ leb (loadLeft (T .balance n) (agentIn a rp) (agentIn a rq)) (weightGone (T .balance n) p q (agentIn a rp))
+      balance-is n h =
+          let k = live-sends l in
+          ap₂ leb
+          (ap₂ _+_ (ready .weighs (rp .left) n (left-below p rp hp (omega arith)) h) (ready .weighs (rq .left) n (left-below q rq hq (omega arith)) h))
+          (ap₂ _+_ (weight-is q rq hq (omega arith) n h)
+          (ap (λ (x : ℕ). cond (eqb (rp .kind) 5) x 0) (weight-is p rp hp (omega arith) n h) ∙ taken-kind (rp .kind) kp ((T .balance n) .weight p)))

@@ -1,0 +1,117 @@
+-- The loop's flag says that the balances passed bear both weights.
+use Prim.Native.Nat.{ℕ, _+_, _*_, _≤_, _-_}
+use mathlib.Core.Path.{_≡_, refl, sym, ap, _∙_}
+use mathlib.Core.List.{List}
+use mathlib.Core.Bool.{Bool}
+use lib.Dec.{leb}
+use lib.ListN.{getD}
+use Rattle.laws.specs.Search.{every}
+use Rattle.laws.proofs.Search.{every-zero, every-step}
+use native.Mathlib.Omega.{arith}
+use borrow.Author.Needs.{needs}
+use Rattle.pairs.proofs.fit_both.Statement.{statement}
+use Rattle.pairs.proofs.fit_both.Tie as tie
+
+-- balance k bears the weights of nodes p and q
+abbrev bears : List ℕ → List ℕ → ℕ → ℕ → ℕ → Bool
+bears loads bounds p q k = leb (getD loads (24 * p + k) 0 + getD loads (24 * q + k) 0) (getD bounds k 0)
+
+abbrev Inv-loop : tie.InvT-loop
+Inv-loop z loads bounds p q at to fits₀ k₀ fits k = (k ≤ z .balances) × (at ≡ 24 * p) × (to ≡ 24 * q) × (fits ≡ every k (bears loads bounds p q))
+
+abbrev μ-loop : tie.MeasureT-loop
+μ-loop z loads bounds p q at to fits₀ k₀ fits k = z .balances - k
+
+mul-at : tie.Need-mul-at Inv-loop μ-loop
+mul-at c = search needs
+
+mul-to : tie.Need-mul-to Inv-loop μ-loop
+mul-to c = search needs
+
+loop-holds : tie.Need-loop-holds Inv-loop μ-loop
+loop-holds c =
+    (search needs, refl, refl, sym (every-zero _))
+
+add-wide : tie.Need-add-wide Inv-loop μ-loop
+add-wide c = search needs
+
+mul-wide : tie.Need-mul-wide Inv-loop μ-loop
+mul-wide c = search needs
+
+shared-slice-read-wide : tie.Need-shared-slice-read-wide Inv-loop μ-loop
+shared-slice-read-wide c = search needs
+
+wide-requires : tie.Need-wide-requires Inv-loop μ-loop
+wide-requires c κs = search needs
+
+add-wide-2 : tie.Need-add-wide-2 Inv-loop μ-loop
+add-wide-2 c = search needs
+
+mul-wide-2 : tie.Need-mul-wide-2 Inv-loop μ-loop
+mul-wide-2 c = search needs
+
+shared-slice-read-wide-2 : tie.Need-shared-slice-read-wide-2 Inv-loop μ-loop
+shared-slice-read-wide-2 c = search needs
+
+wide-requires-2 : tie.Need-wide-requires-2 Inv-loop μ-loop
+wide-requires-2 c κs = search needs
+
+add-fits : tie.Need-add-fits Inv-loop μ-loop
+add-fits c = search needs
+
+mul-wide-3 : tie.Need-mul-wide-3 Inv-loop μ-loop
+mul-wide-3 c = search needs
+
+shared-slice-read-wide-3 : tie.Need-shared-slice-read-wide-3 Inv-loop μ-loop
+shared-slice-read-wide-3 c = search needs
+
+wide-requires-3 : tie.Need-wide-requires-3 Inv-loop μ-loop
+wide-requires-3 c κs = search needs
+
+add-k : tie.Need-add-k Inv-loop μ-loop
+add-k c = search needs
+
+loop-less : tie.Need-loop-less Inv-loop μ-loop
+loop-less c = search needs
+
+loop-again : tie.Need-loop-again Inv-loop μ-loop
+loop-again c =
+    let l = c .before .before .before .before .before .before .before .before .loop in
+    let x = c .before .before .before .before .before .before .before .before .before .before .before .args in (
+      search needs,
+      l .inv .1,
+      l .inv .2,
+      rw (l .inv .3, c .before .before .before .before .wide .ensures .0, c .before .before .wide2 .ensures .0, c .wide3 .ensures .0, l .inv .1, l .inv .2) (sym (every-step (bears (x .loads .now) (x .bounds .now) (x .p) (x .q)) (l .k))),
+    )
+
+returns : tie.Need-returns Inv-loop μ-loop
+returns c =
+    let l = c .before .before .loop in
+    let e : l .k ≡ c .before .before .before .before .before .args .z .balances = omega arith in
+    rw e at (l .inv .3)
+
+pub fit-both-spec : {M : Type 1} → statement M
+fit-both-spec =
+    tie.close
+    (tie.spec
+    Inv-loop
+    μ-loop
+    mul-at
+    mul-to
+    loop-holds
+    add-wide
+    mul-wide
+    shared-slice-read-wide
+    wide-requires
+    add-wide-2
+    mul-wide-2
+    shared-slice-read-wide-2
+    wide-requires-2
+    add-fits
+    mul-wide-3
+    shared-slice-read-wide-3
+    wide-requires-3
+    add-k
+    loop-less
+    loop-again
+    returns)

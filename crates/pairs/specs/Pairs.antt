@@ -1,0 +1,78 @@
+-- Rules 3 and 4 as one search over receiver, sender and a last figure, and what the checker's own lists hold.
+use Prim.Native.Nat.{ℕ, suc, _+_, _*_, _≤_, _<_}
+use mathlib.Core.Path.{_≡_}
+use mathlib.Core.Bool.{Bool, cond}
+use mathlib.Core.List.{List, [], _∷_}
+use lib.Dec.{eqb, leb}
+use lib.ListN.{length, getD}
+use Rattle.laws.specs.Search.{Found, clear, hit, test, first}
+use Rattle.wire.specs.Numbers.{u32At}
+use Rattle.marks.specs.Marks.{marked, inside}
+use Rattle.model.specs.Tree.{Array, Sort, out, inp, resource, Agent, procAt}
+use Rattle.model.specs.Rules.{Table, Broken, Verdict, at, within, loadLeft, weightGone}
+use Rattle.records.specs.declared.Record.{Record}
+use Rattle.records.specs.declared.Trailer.{Trailer}
+use Rattle.records.specs.Record.{recordOf, argsOf, arrayOf}
+use Rattle.arrays.specs.File.{IsRead}
+use Rattle.layout.specs.declared.Sizes.{Sizes}
+use Rattle.layout.specs.Table.{balanceAt, rowBit, tableOf, IsTable}
+use Rattle.loads.specs.Loads.{AllLoads}
+use Rattle.pairs.specs.declared.Pair.{Pair}
+use Rattle.pairs.specs.declared.Pair.the-variants.{Nowhere, At}
+
+-- ---- agents, by their records
+
+abbrev pub sortOf : ℕ → Sort
+sortOf k = cond (eqb k 4) out (cond (eqb k 5) inp resource)
+
+-- the agent that a record of kind 4 or above stands for
+abbrev pub agentIn : Array → Record → Agent
+agentIn a r = record { sort = sortOf (r .kind); channel = r .name; args = argsOf r; body = procAt a (r .left) }
+
+-- node i's record is r
+pub record Reads (f : List ℕ) (t : Trailer) (i : ℕ) (r : Record) : Type 0 where
+  pub below : i < t .nodes
+  pub is : r ≡ recordOf f t i
+
+-- ---- the last figure: arguments for rule 3, balances for rule 4
+
+abbrev pub figures : ℕ → Table → Agent → ℕ
+figures rule t p = cond (eqb rule 3) (length (p .args)) (t .balances)
+
+abbrev pub figureHolds : ℕ → Table → ℕ → ℕ → Agent → Agent → ℕ → Bool
+figureHolds rule t i j p q n =
+    cond (eqb rule 3) (within t (getD (q .args) n 0) (getD (p .args) n 0)) (leb (loadLeft (t .balance n) p q) (weightGone (t .balance n) i j p))
+
+-- "(p, q, argument from 1)", "(p, q, balance)"
+abbrev pub placeOf : ℕ → ℕ → ℕ → ℕ → Broken
+placeOf rule i j n = cond (eqb rule 3) (at 3 (i ∷ j ∷ suc n ∷ [])) (at 4 (i ∷ j ∷ n ∷ []))
+
+unfoldable pub atPair : ℕ → Table → ℕ → ℕ → Agent → Agent → Verdict
+atPair rule t i j p q = first (figures rule t p) λ n. test (figureHolds rule t i j p q n) (placeOf rule i j n)
+
+-- what a search over the pairs answers
+abbrev pub pairSays : ℕ → Pair → Verdict
+pairSays rule Nowhere = clear
+pairSays rule (At i j n) = hit (placeOf rule i j n)
+
+-- ---- the same by the checker's own lists
+
+abbrev pub argumentHolds : List ℕ → Record → Record → ℕ → Bool
+argumentHolds rows rp rq n = inside rows (4 * getD (rq .args) n 0) rows (4 * getD (rp .args) n 0)
+
+abbrev pub balanceHolds : List ℕ → ℕ → Record → ℕ → Record → ℕ → Bool
+balanceHolds loads p rp q rq n =
+    leb (getD loads (24 * rp .left + n) 0 + getD loads (24 * rq .left + n) 0)
+    (getD loads (24 * q + n) 0 + cond (eqb (rp .kind) 5) (getD loads (24 * p + n) 0) 0)
+
+-- of an array file f that says t and a table s of sizes z, both read: rows of marks, loads and bounds
+pub record Ready (f : List ℕ) (t : Trailer) (s : List ℕ) (z : Sizes) (rows loads bounds : List ℕ) : Type 0 where
+  pub array : IsRead f t
+  pub table : IsTable f t s z
+  pub bytes : (i : ℕ) → getD s i 0 < 256
+  pub marks : (v o : ℕ) → v < z .names → o < 256 → marked rows (4 * v) o ≡ rowBit s v o
+  pub weighs : AllLoads loads (arrayOf f t) (tableOf s z)
+  pub bears : (k : ℕ) → k < z .balances → getD bounds k 0 ≡ u32At s (balanceAt z k)
+  pub manyRows : length rows ≡ 1024
+  pub manyLoads : length loads ≡ 24576
+  pub manyBounds : length bounds ≡ 24

@@ -1,0 +1,191 @@
+// Live pairs, and rules 3 and 4 as one search over receiver, sender and a last figure.
+// Promises the model's pairs over the array and the table that the bytes stand for. Depends on loads, layout, arrays, records,
+// marks, wire, model and laws. The lists are the checker's own: rows of marks, loads of all nodes in all balances, bounds.
+ghost use mathlib.Core.Path.{_≡_};
+ghost use mathlib.Core.Bool.{true, cond};
+ghost use Prim.Native.Nat.{_+_, _*_, _<_, _≤_};
+ghost use lib.ListN.{length, getD};
+ghost use lib.Dec.{leb, eqb};
+ghost use Rattle.laws.specs.Search.{every};
+ghost use Rattle.model.specs.Rules as M;
+ghost use Rattle.records.specs.Record.{arrayOf};
+ghost use Rattle.layout.specs.Table.{tableOf};
+ghost use Rattle.pairs.specs.Pairs.{agentIn, figureHolds, argumentHolds, balanceHolds, atPair, pairSays, Reads, Ready};
+use layout::Sizes;
+use records::Record;
+use records::Trailer;
+
+// The place of a broken rule: receiver, sender and the last figure, which counts from 0.
+pub enum Pair {
+    Nowhere,
+    At(usize, usize, usize),
+}
+
+// No balance has the weights of nodes p and q above its bound.
+fn fit_both(z: Sizes, loads: &[u32], bounds: &[u32], p: usize, q: usize) -> bool
+    requires { ⌜ (z .balances ≤ 24) × (p < 1024) × (q < 1024) × (length (now loads) ≡ 24576) × (length (now bounds) ≡ 24) ⌝ }
+    ensures { λ b. ⌜ b ≡ every (z .balances) (λ k. leb (getD (now (loads .entry)) (24 * p + k) 0 + getD (now (loads .entry)) (24 * q + k) 0) (getD (now (bounds .entry)) k 0)) ⌝ }
+{
+    let at = 24 * p;
+    let to = 24 * q;
+    let mut fits = true;
+    let mut k: usize = 0;
+    while k < z.balances {
+        fits = fits & (wide(loads[at + k]) + wide(loads[to + k]) <= wide(bounds[k]));
+        k += 1;
+    }
+    fits
+}
+
+fn wide(x: u32) -> u64
+    ensures { λ r. ⌜ (r ≡ x) × (r < 4294967296) ⌝ }
+{
+    x as u64
+}
+
+// Receiver p and sender q, of the records given, are a live pair.
+fn live(
+    file: &[u8],
+    t: Trailer,
+    table: &[u8],
+    z: Sizes,
+    rows: &[u64],
+    loads: &[u32],
+    bounds: &[u32],
+    p: usize,
+    rp: Record,
+    q: usize,
+    rq: Record,
+) -> bool
+    requires { ⌜ Ready (now file) t (now table) z (now rows) (now loads) (now bounds) ⌝ }
+    requires { ⌜ Reads (now file) t p rp × Reads (now file) t q rq × (5 ≤ rp .kind) ⌝ }
+    ensures { λ b. ⌜ b ≡ M.live (tableOf (now (table .entry)) z) p q (agentIn (arrayOf (now (file .entry)) t) rp) (agentIn (arrayOf (now (file .entry)) t) rq) ⌝ }
+{
+    if rq.kind != 4 {
+        return false;
+    }
+    if rp.arity != rq.arity {
+        return false;
+    }
+    if !marks::shares(rows, 4 * rp.name, 4 * rq.name) {
+        return false;
+    }
+    fit_both(z, loads, bounds, p, q)
+}
+
+// How many figures the rule looks at.
+fn figures(rule: u8, z: Sizes, rp: Record) -> usize
+    ensures { λ n. ⌜ n ≡ cond (eqb rule 3) (rp .arity) (z .balances) ⌝ }
+{
+    if rule == 3 {
+        return rp.arity;
+    }
+    z.balances
+}
+
+// Rule 3 at argument n: the sent name's row is contained in the parameter's.
+fn argument_holds(rows: &[u64], rp: Record, rq: Record, n: usize) -> bool
+    requires { ⌜ (n < 8) × (4 * getD (rp .args) n 0 + 3 < length (now rows)) × (4 * getD (rq .args) n 0 + 3 < length (now rows)) ⌝ }
+    ensures { λ b. ⌜ b ≡ argumentHolds (now (rows .entry)) rp rq n ⌝ }
+{
+    let sent = rq.args;
+    let bound = rp.args;
+    marks::contained(
+        rows,
+        4 * records::wide(sent[n]),
+        rows,
+        4 * records::wide(bound[n]),
+    )
+}
+
+// Rule 4 at balance n: the loads of both continuations are within what goes.
+fn balance_holds(loads: &[u32], p: usize, rp: Record, q: usize, rq: Record, n: usize) -> bool
+    requires { ⌜ (n < 24) × (p < 1024) × (q < 1024) × (rp .left < 1024) × (rq .left < 1024) × (length (now loads) ≡ 24576) ⌝ }
+    ensures { λ b. ⌜ b ≡ balanceHolds (now (loads .entry)) p rp q rq n ⌝ }
+{
+    let left = wide(loads[24 * rp.left + n]) + wide(loads[24 * rq.left + n]);
+    let sender = wide(loads[24 * q + n]);
+    if rp.kind == 5 {
+        return left <= sender + wide(loads[24 * p + n]);
+    }
+    left <= sender
+}
+
+// The rule holds at figure n of the live pair p, q.
+fn figure_holds(
+    rule: u8,
+    file: &[u8],
+    t: Trailer,
+    table: &[u8],
+    z: Sizes,
+    rows: &[u64],
+    loads: &[u32],
+    bounds: &[u32],
+    p: usize,
+    rp: Record,
+    q: usize,
+    rq: Record,
+    n: usize,
+) -> bool
+    requires { ⌜ Ready (now file) t (now table) z (now rows) (now loads) (now bounds) ⌝ }
+    requires { ⌜ Reads (now file) t p rp × Reads (now file) t q rq × (5 ≤ rp .kind) × (n < cond (eqb rule 3) (rp .arity) (z .balances)) ⌝ }
+    requires { ⌜ M.live (tableOf (now table) z) p q (agentIn (arrayOf (now file) t) rp) (agentIn (arrayOf (now file) t) rq) ≡ true ⌝ }
+    ensures { λ b. ⌜ b ≡ figureHolds rule (tableOf (now (table .entry)) z) p q (agentIn (arrayOf (now (file .entry)) t) rp) (agentIn (arrayOf (now (file .entry)) t) rq) n ⌝ }
+{
+    if rule == 3 {
+        return argument_holds(rows, rp, rq, n);
+    }
+    balance_holds(loads, p, rp, q, rq, n)
+}
+
+// Rule 3 or 4: the first live pair that breaks it, lowest receiver, then lowest sender, then the last figure.
+pub fn first_pair(
+    rule: u8,
+    file: &[u8],
+    t: Trailer,
+    table: &[u8],
+    z: Sizes,
+    rows: &[u64],
+    loads: &[u32],
+    bounds: &[u32],
+) -> Pair
+    requires { ⌜ Ready (now file) t (now table) z (now rows) (now loads) (now bounds) ⌝ }
+    ensures { λ r. ⌜ pairSays rule r ≡ M.pairs (arrayOf (now (file .entry)) t) (tableOf (now (table .entry)) z) (atPair rule (tableOf (now (table .entry)) z)) ⌝ }
+{
+    let nodes = t.nodes;
+    let mut answer = Pair::Nowhere;
+    'receiver: for p in 0..nodes {
+        let rp = records::record_at(file, t.start + 16 * p);
+        if rp.kind < 5 {
+            continue 'receiver;
+        }
+        let count = figures(rule, z, rp);
+        'sender: for q in 0..nodes {
+            let rq = records::record_at(file, t.start + 16 * q);
+            if !live(file, t, table, z, rows, loads, bounds, p, rp, q, rq) {
+                continue 'sender;
+            }
+            for n in 0..count {
+                if !figure_holds(
+                    rule,
+                    file,
+                    t,
+                    table,
+                    z,
+                    rows,
+                    loads,
+                    bounds,
+                    p,
+                    rp,
+                    q,
+                    rq,
+                    n,
+                ) {
+                    answer = Pair::At(p, q, n);
+                    break 'receiver;
+                }
+            }
+        }
+    }
+    answer
+}

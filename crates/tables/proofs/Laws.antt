@@ -1,0 +1,85 @@
+-- What the tests of a table's trailer say, and that a table that was read is one.
+use Prim.Native.Nat.{ℕ, _+_, _*_, _-_, _≤_}
+use native.Mathlib.Nat.{zero-mul, add-zero}
+use native.Mathlib.Omega.{arith}
+use mathlib.Core.Path.{_≡_, refl, sym, ap, ap₂, _∙_, subst}
+use mathlib.Core.Bool.{true, _&&_}
+use mathlib.Core.List.{List}
+use lib.Dec.{eqb, leb}
+use lib.ListN.{length}
+use borrow.Author.Tests.{leb-true, eqb-true}
+use Rattle.laws.specs.Search.{Found, clear, hit, andThen}
+use Rattle.laws.proofs.Search.{and-split, test-clear, andThen-split, clear-andThen, hit-andThen}
+use Rattle.wire.specs.Numbers.{u32At}
+use Rattle.model.specs.Formed as F
+use Rattle.records.specs.declared.Trailer.{Trailer}
+use Rattle.records.specs.declared.Refusal.{Refusal}
+use Rattle.records.specs.Record.{arrayOf}
+use Rattle.arrays.specs.declared.ArrayAnswer.the-variants as A
+use Rattle.arrays.specs.File.{trailerOf, arrayRefusal, readArray, IsRead}
+use Rattle.arrays.proofs.Laws.{read-passes, read-refuses, read-is}
+use Rattle.layout.specs.declared.Sizes.{Sizes}
+use Rattle.layout.specs.Table.{balanceSize, balanceAt, claimAt, sizesOf, lengthFits, countsFit, startsFit, partsFit, refusal13, refusal19, refusal20, refusal21, Laid, IsTable}
+use Rattle.tables.specs.declared.TableAnswer.the-variants.{Read, Refused}
+use Rattle.tables.specs.Read.{tableRefusal, filesRefusal, answer, readTable}
+
+pub length-fits : (s : List ℕ) → lengthFits s ≡ true → 28 ≤ length s
+length-fits s e = leb-true _ _ (and-split (leb 28 (length s)) _ (and-split (leb 28 (length s) && leb (length s) 59516) _ e .0) .0)
+
+pub counts-fit : (z : Sizes) → countsFit z ≡ true → (z .balances ≤ 24) × (z .claims ≤ 256)
+counts-fit z e = let c = and-split (leb (z .balances) 24) (leb (z .claims) 256) e in (leb-true _ _ (c .0), leb-true _ _ (c .1))
+
+pub parts-fill : (s : List ℕ) (z : Sizes) → partsFit s z ≡ true → claimAt z (z .claims) + 28 ≡ length s
+unfolding partsFit
+parts-fill s z e = eqb-true _ _ (and-split (startsFit s z) (eqb (claimAt z (z .claims) + 28) (length s)) e .1)
+
+-- the tests as the code makes them: b, c and n are where it finds balances and claims to start
+pub parts-tests : (s : List ℕ) (z : Sizes) (a b c n : ℕ) → a ≡ u32At s (length s - 28) → b ≡ u32At s (length s - 24) → c ≡ u32At s (length s - 20)
+    → n ≡ claimAt z 0 → eqb a 0 && eqb b (32 * z .names) && eqb c n && eqb (n + 8 * z .claims + 28) (length s) ≡ partsFit s z
+unfolding partsFit
+parts-tests s z a b c n ea eb ec en =
+    let e : 32 * z .names ≡ balanceAt z 0 = sym (ap (λ (k : ℕ). 32 * z .names + k) (zero-mul (balanceSize z)) ∙ add-zero _) in
+    let f : n + 8 * z .claims + 28 ≡ claimAt z (z .claims) + 28 = omega arith in
+    ap₂ _&&_ (ap₂ _&&_ (ap₂ _&&_ (ap (λ (x : ℕ). eqb x 0) ea) (ap₂ eqb eb e)) (ap₂ eqb ec en)) (ap (λ (x : ℕ). eqb x (length s)) f)
+
+-- ---- a table that was read
+
+-- refusals 13 to 21 found nothing
+pub passed-table : (f : List ℕ) (t : Trailer) (s : List ℕ) → tableRefusal f t s ≡ clear → IsTable f t s (sizesOf t s)
+passed-table f t s e =
+    let s₁ = andThen-split _ _ e in
+    let s₂ = andThen-split _ _ (s₁ .1) in
+    let s₃ = andThen-split _ _ (s₂ .1) in
+    let s₄ = andThen-split _ _ (s₃ .1) in
+    let s₅ = andThen-split _ _ (s₄ .1) in
+    let s₆ = andThen-split _ _ (s₅ .1) in
+    let s₇ = andThen-split _ _ (s₆ .1) in
+    let s₈ = andThen-split _ _ (s₇ .1) in
+    let counts = counts-fit (sizesOf t s) (test-clear _ _ (s₃ .0)) in
+    record {
+      laid = record {
+        nodes = refl;
+        names = refl;
+        fewBalances = counts .0;
+        fewClaims = counts .1;
+        fills = parts-fill s (sizesOf t s) (test-clear _ _ (s₄ .0));
+      };
+      rows = s₇ .0;
+      weights = s₈ .0;
+      claims = s₈ .1;
+    }
+
+-- ---- the answer, by the array's and the table's
+
+module _ (f s : List ℕ) where
+  pub array-refused : (r : Refusal) → readArray f ≡ A.Refused r → Refused r ≡ readTable f s
+  unfolding readTable
+  array-refused r e = ap (λ x. answer x (sizesOf (trailerOf f) s)) (sym (hit-andThen (arrayRefusal f) (tableRefusal f (trailerOf f) s) _ (read-refuses f r e)))
+
+  pub array-read : (t : Trailer) (x : Found F.Refusal) (z : Sizes) → readArray f ≡ A.Read t → x ≡ tableRefusal f t s → z ≡ sizesOf t s → answer x z ≡ readTable f s
+  unfolding readTable
+  array-read t x z e found size =
+      let p = read-passes f t e in
+      ap₂ answer
+      (found ∙ ap (λ u. tableRefusal f u s) (sym (p .1)) ∙ sym (clear-andThen (arrayRefusal f) (tableRefusal f (trailerOf f) s) (p .0)))
+      (size ∙ ap (λ u. sizesOf u s) (sym (p .1)))

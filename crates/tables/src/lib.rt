@@ -1,0 +1,128 @@
+// The table reader: refusals 13 to 21 in checking order, after the array's own.
+// Promises specs/Read, for every two byte strings; proofs/Laws says that a table that was read is one (IsTable, in layout).
+// Depends on the crates that check one part each (flows, weights), layout, arrays, records, wire, model and laws.
+ghost use mathlib.Core.Path.{_≡_};
+ghost use Prim.Native.Nat.{_+_, _*_, _≤_};
+ghost use lib.ListN.{length};
+ghost use Rattle.records.specs.Record.{foundOf};
+ghost use Rattle.layout.specs.Table.{claimAt, partsFit};
+ghost use Rattle.tables.specs.Read.{from14, from16, from18, from20, tableRefusal, readTable};
+use arrays::ArrayAnswer;
+use layout::Sizes;
+use records::Check;
+use records::Refusal;
+use records::Trailer;
+
+pub enum TableAnswer {
+    Read(Sizes),
+    Refused(Refusal),
+}
+
+fn refused(number: u8) -> Check
+    ensures { λ r. ⌜ r ≡ Check.Refused record { number = number; place = 0 } ⌝ }
+{
+    Check::Refused(Refusal { number, place: 0 })
+}
+
+// Refusals 20 and 21.
+fn check_numbers(file: &[u8], t: Trailer, table: &[u8], z: Sizes) -> Check
+    requires { ⌜ (t .start + 16 * t .nodes ≤ length (now file)) × (t .start ≤ 1024) × (t .nodes ≤ 1024) ⌝ }
+    requires { ⌜ (z .nodes ≡ t .nodes) × (z .names ≤ 256) × (z .balances ≤ 24) × (claimAt z (z .claims) ≤ length (now table)) ⌝ }
+    ensures { λ r. ⌜ foundOf r ≡ from20 (now (file .entry)) t (now (table .entry)) z ⌝ }
+{
+    if let Check::Refused(r) = weights::bad_balance(file, t, table, z) {
+        return Check::Refused(r);
+    }
+    weights::bad_claim(file, t, table, z)
+}
+
+// Refusals 18 to 21.
+fn check_rows(file: &[u8], t: Trailer, table: &[u8], z: Sizes) -> Check
+    requires { ⌜ (t .start + 16 * t .nodes ≤ length (now file)) × (t .start ≤ 1024) × (t .nodes ≤ 1024) ⌝ }
+    requires { ⌜ (z .nodes ≡ t .nodes) × (z .names ≤ 256) × (z .balances ≤ 24) × (claimAt z (z .claims) + 28 ≤ length (now table)) ⌝ }
+    ensures { λ r. ⌜ foundOf r ≡ from18 (now (file .entry)) t (now (table .entry)) z ⌝ }
+{
+    if wire::u32_at(table, table.len() - 12) != t.sum {
+        return refused(18);
+    }
+    if let Check::Refused(r) = flows::bad_row(file, t, table, z) {
+        return Check::Refused(r);
+    }
+    check_numbers(file, t, table, z)
+}
+
+fn wide(x: u32) -> usize
+    ensures { λ r. ⌜ r ≡ x ⌝ }
+{
+    x as usize
+}
+
+// The parts start where they should, and fill the file.
+fn parts_fit(table: &[u8], z: Sizes) -> bool
+    requires { ⌜ (z .nodes ≤ 1024) × (z .names ≤ 256) × (z .balances ≤ 24) × (z .claims ≤ 256) ⌝ }
+    requires { ⌜ 28 ≤ length (now table) ⌝ }
+    ensures { λ b. ⌜ b ≡ partsFit (now (table .entry)) z ⌝ }
+{
+    let len = table.len();
+    let claims = layout::claims_at(z);
+    (wire::u32_at(table, len - 28) == 0)
+        & (wide(wire::u32_at(table, len - 24)) == 32 * z.names)
+        & (wide(wire::u32_at(table, len - 20)) == claims)
+        & (claims + 8 * z.claims + 28 == len)
+}
+
+// Refusals 16 to 21.
+fn check_parts(file: &[u8], t: Trailer, table: &[u8], z: Sizes) -> Check
+    requires { ⌜ (t .start + 16 * t .nodes ≤ length (now file)) × (t .start ≤ 1024) × (t .nodes ≤ 1024) ⌝ }
+    requires { ⌜ (z .nodes ≡ t .nodes) × (z .names ≤ 256) × (z .balances ≤ 24) × (z .claims ≤ 256) × (28 ≤ length (now table)) ⌝ }
+    ensures { λ r. ⌜ foundOf r ≡ from16 (now (file .entry)) t (now (table .entry)) z ⌝ }
+{
+    let len = table.len();
+    if !parts_fit(table, z) {
+        return refused(16);
+    }
+    if wire::u32_at(table, len - 8) != wire::word_sum(table, (len - 8) / 4) {
+        return refused(17);
+    }
+    check_rows(file, t, table, z)
+}
+
+// Refusals 14 to 21.
+fn check_letters(file: &[u8], t: Trailer, table: &[u8], z: Sizes) -> Check
+    requires { ⌜ (t .start + 16 * t .nodes ≤ length (now file)) × (t .start ≤ 1024) × (t .nodes ≤ 1024) ⌝ }
+    requires { ⌜ (z .nodes ≡ t .nodes) × (z .names ≤ 256) × (28 ≤ length (now table)) ⌝ }
+    ensures { λ r. ⌜ foundOf r ≡ from14 (now (file .entry)) t (now (table .entry)) z ⌝ }
+{
+    if wire::u32_at(table, table.len() - 4) != 826493264 {
+        return refused(14);
+    }
+    if !((z.balances <= 24) & (z.claims <= 256)) {
+        return refused(15);
+    }
+    check_parts(file, t, table, z)
+}
+
+// Refusals 13 to 21, of a table for an array that was read.
+pub fn check_table(file: &[u8], t: Trailer, table: &[u8]) -> Check
+    requires { ⌜ (t .start + 16 * t .nodes ≤ length (now file)) × (t .start ≤ 1024) × (t .nodes ≤ 1024) × (t .names ≤ 256) ⌝ }
+    ensures { λ r. ⌜ foundOf r ≡ tableRefusal (now (file .entry)) t (now (table .entry)) ⌝ }
+{
+    let len = table.len();
+    if !((28 <= len) & (len <= 59516) & (len % 4 == 0)) {
+        return refused(13);
+    }
+    check_letters(file, t, table, layout::read_sizes(t, table))
+}
+
+// Reads a table file beside its array file.
+pub fn read_table(array: &[u8], table: &[u8]) -> TableAnswer
+    ensures { λ r. ⌜ r ≡ readTable (now (array .entry)) (now (table .entry)) ⌝ }
+{
+    match arrays::read_array(array) {
+        ArrayAnswer::Refused(r) => TableAnswer::Refused(r),
+        ArrayAnswer::Read(t) => match check_table(array, t, table) {
+            Check::Refused(r) => TableAnswer::Refused(r),
+            Check::Passed => TableAnswer::Read(layout::read_sizes(t, table)),
+        },
+    }
+}
