@@ -171,4 +171,5 @@ def main():
     print(len(CASES), "cases")
 
 
-main()
+if __name__ == "__main__":
+    main()

@@ -1,13 +1,11 @@
--- A list filled in order, a row of the names that news open, and the test of refusal 19 by rows of marks.
+-- A row of the names that news open, and the test of refusal 19 by rows of marks.
 use Prim.Native.Nat.{ℕ, _+_, _*_, _<_}
 use native.Mathlib.Omega.{arith}
 use mathlib.Core.Path.{_≡_, refl, sym, ap, ap₂, _∙_}
 use mathlib.Core.Bool.{Bool, not, _&&_, _||_}
 use mathlib.Core.List.{List}
 use lib.Dec.{eqb}
-use lib.ListN.{length, getD, set}
-use lib.Seq.{getD-set-same, getD-set-other}
-use borrow.Author.Count.{below-more}
+use lib.ListN.{length, getD}
 use Rattle.laws.specs.Search.{Found, first, any}
 use Rattle.laws.proofs.Search.{first-same, any-step, every-same}
 use Rattle.marks.specs.Marks.{marked, markIf, inside}
@@ -20,14 +18,6 @@ use Rattle.records.specs.Record.{recordOf, nodeOf, arrayOf}
 use Rattle.records.proofs.Laws.{by-kind, kind-above, node-of}
 use Rattle.layout.specs.declared.Sizes.{Sizes}
 use Rattle.layout.specs.Table.{rowBit, refusal19}
-
--- general
--- a list that holds f below j: one word more
-pub set-more : (f : ℕ → ℕ) (l : List ℕ) (j x : ℕ) → j < length l → ((i : ℕ) → i < j → getD l i 0 ≡ f i) → x ≡ f j
-    → (i : ℕ) → i < j + 1 → getD (set l j x) i 0 ≡ f i
-set-more f l j x h below e =
-    below-more (λ i. getD (set l j x) i 0 ≡ f i) j
-    (λ i k. getD-set-other l j i x 0 (λ q. absurd (omega arith)) ∙ below i k) (getD-set-same l j x 0 h ∙ e)
 
 -- ---- the names that news open
 

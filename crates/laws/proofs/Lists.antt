@@ -10,6 +10,7 @@ use lib.Dec.{eqb, leb, ltb, leb·suc-zero, leb·suc-suc}
 use lib.ListN.{length, getD, take, drop, set, replicate}
 use lib.Seq.{take-nil, getD-set-same, getD-set-other}
 use borrow.Author.Tests.{eqb-true, eqb-false, eq-eqb, le-leb, lt-ltb, le-ltb}
+use borrow.Author.Count.{below-more}
 use Rattle.laws.specs.Search.{every, any, sum}
 use Rattle.laws.specs.Lists.{All, one, all, has, times}
 use Rattle.laws.proofs.Search.{decided, and-split, and-join, or-split, or-right, true-every, every-same, every-cons, any-same, any-cons, sum-same, sum-cons}
@@ -61,6 +62,13 @@ getD-set l i a k d h = go (decided (eqb k i))
     go : (eqb k i ≡ true) ⊎ (eqb k i ≡ false) → getD (set l i a) k d ≡ cond (eqb k i) a (getD l k d)
     go (inl e) = rw (e, eqb-true k i e) (getD-set-same l i a d h)
     go (inr e) = rw e (getD-set-other l i k a d (eqb-false k i e))
+
+-- a list that holds f below j: one word more
+pub set-more : (f : ℕ → ℕ) (l : List ℕ) (j x : ℕ) → j < length l → ((i : ℕ) → i < j → getD l i 0 ≡ f i) → x ≡ f j
+    → (i : ℕ) → i < j + 1 → getD (set l j x) i 0 ≡ f i
+set-more f l j x h below e =
+    below-more (λ i. getD (set l j x) i 0 ≡ f i) j
+    (λ i k. getD-set-other l j i x 0 (λ q. absurd (omega arith)) ∙ below i k) (getD-set-same l j x 0 h ∙ e)
 
 pub getD-zeros : (n k : ℕ) → getD {A = ℕ} (replicate n 0) k 0 ≡ 0
 getD-zeros zero k = refl

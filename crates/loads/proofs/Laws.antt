@@ -26,11 +26,6 @@ use Rattle.records.specs.Record.{recordOf, nodeOf, arrayOf}
 use Rattle.records.proofs.Laws.{by-kind, node-of}
 use Rattle.loads.specs.Loads.{Half, loadFrom, FilledFrom}
 
--- general
-pub u16-small : (s : List ℕ) → ((k : ℕ) → getD s k 0 < 256) → (i : ℕ) → u16At s i ≤ 65535
-unfolding u16At
-u16-small s b i = omega (arith, b i, b (i + 1))
-
 -- two loads of a node's children that agree give the node one load
 load-agree : (v w : ℕ → ℕ) (i j : ℕ) (f g : ℕ → ℕ) (n : Node) → v i ≡ w j
     → ((c : ℕ) → has (children n) c ≡ true → f c ≡ g c) → loadOf v i f n ≡ loadOf w j g n

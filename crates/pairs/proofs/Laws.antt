@@ -1,26 +1,24 @@
 -- What the checker's lists say of agents, live pairs and figures.
-use Prim.Native.Nat.{ℕ, zero, suc, _+_, _*_, _≤_, _<_}
-use native.Mathlib.Nat.{not-suc-le-zero}
+use Prim.Native.Nat.{ℕ, _+_, _*_, _≤_, _<_}
 use native.Mathlib.Omega.{arith}
-use mathlib.Core.Path.{_≡_, refl, sym, ap, ap₂, _∙_, subst}
-use mathlib.Core.Logic.{_⊎_, inl, inr, ⊎-elim}
-use mathlib.Core.Bool.{Bool, true, false, cond, not, _&&_, _||_, true≢false, false≢true}
-use mathlib.Core.List.{List, [], _∷_}
+use mathlib.Core.Path.{_≡_, refl, sym, ap, ap₂, _∙_}
+use mathlib.Core.Logic.{_⊎_, ⊎-elim}
+use mathlib.Core.Bool.{Bool, true, false, cond, not, _&&_, _||_, true≢false}
+use mathlib.Core.List.{List, []}
 use mathlib.Core.Option.{Option, none, some}
 use lib.Dec.{eqb, leb, ltb}
-use lib.ListN.{length, getD, take}
+use lib.ListN.{length, getD}
 use lib.Seq.{length-take-le, getD-take}
-use borrow.Author.Tests.{ltb-true, ltb-false, leb-true, eqb-true, eqb-false, eq-eqb, ne-eqb, le-ltb, lt-ltb}
-use Rattle.laws.specs.Search.{Found, clear, hit, under, first, every, any}
-use Rattle.laws.specs.Lists.{All}
-use Rattle.laws.proofs.Search.{decided, and-split, any-same, every-same, clear-under}
+use borrow.Author.Tests.{ltb-true, ltb-false, eqb-true, eqb-false, eq-eqb, ne-eqb}
+use Rattle.laws.specs.Search.{clear, under, every}
+use Rattle.laws.proofs.Search.{decided, any-same, every-same, clear-under}
 use Rattle.laws.proofs.Lists.{All-getD}
-use Rattle.marks.specs.Marks.{marked, share, inside}
-use Rattle.model.specs.Tree.{Array, Sort, out, inp, resource, Node, nodeAt, Proc, procAt, Agent, agentAt, receives, load}
+use Rattle.marks.specs.Marks.{share, inside}
+use Rattle.model.specs.Tree.{Array, out, inp, resource, Node, nodeAt, Proc, procAt, Agent, agentAt, receives, load}
 use Rattle.model.specs.Nodes.{loadOf, agentOf}
 use Rattle.model.specs.Formed.{children, WellFormed}
-use Rattle.model.specs.Rules.{Table, Balance, rowBits, Live, live, shareBit, fitBoth, within, taken, loadLeft, weightGone, Verdict, onLive}
-use Rattle.model.proofs.Tree.{child-above, wf-procAt, agent-tree, Wf, AgentWf}
+use Rattle.model.specs.Rules.{Table, rowBits, live, shareBit, fitBoth, within, taken, loadLeft, weightGone, Verdict, onLive}
+use Rattle.model.proofs.Tree.{child-above, wf-procAt, agent-tree, AgentWf}
 use Rattle.model.proofs.Nodes.{load-at, agent-at}
 use Rattle.model.proofs.Verdict.{live-Live}
 use Rattle.laws.proofs.Lists.{has-here}
@@ -30,8 +28,8 @@ use Rattle.records.specs.Record.{recordOf, argsOf, nodeOf, arrayOf}
 use Rattle.records.proofs.Laws.{by-kind, kind-above, eight-args, node-of}
 use Rattle.arrays.proofs.Laws.{arity-small}
 use Rattle.layout.specs.declared.Sizes.{Sizes}
-use Rattle.layout.specs.Table.{rowBit, tableOf}
-use Rattle.pairs.specs.Pairs.{sortOf, agentIn, Reads, Ready, figures, figureHolds, argumentHolds, balanceHolds}
+use Rattle.layout.specs.Table.{tableOf}
+use Rattle.pairs.specs.Pairs.{sortOf, agentIn, Reads, Ready, livePair, bearsBoth, argumentHolds, balanceHolds}
 
 -- ---- records of agents
 
@@ -68,9 +66,11 @@ module _ (a : Array) (f : ℕ → Proc) (r : Record) where
 
   agent-none : r .kind < 4 → agentOf f (nodeOf r) ≡ none
   unfolding agentOf
-  agent-none = by-kind r (λ k n. k < 4 → agentOf f n ≡ none) (λ h. refl) (λ h. refl) (λ h. refl) (λ h. refl) (λ h. absurd (omega arith)) (λ h. absurd (omega arith)) (λ k l h. absurd (omega arith))
+  agent-none =
+      by-kind r (λ k n. k < 4 → agentOf f n ≡ none)
+      (λ h. refl) (λ h. refl) (λ h. refl) (λ h. refl) (λ h. absurd (omega arith)) (λ h. absurd (omega arith)) (λ k l h. absurd (omega arith))
 
-module _ (f : List ℕ) (t : Trailer) (s : List ℕ) (z : Sizes) (rows loads bounds : List ℕ) (ready : Ready f t s z rows loads bounds) where
+module _ {f : List ℕ} {t : Trailer} {s : List ℕ} {z : Sizes} {rows loads bounds : List ℕ} (ready : Ready f t s z rows loads bounds) where
   abbrev a : Array
   a = arrayOf f t
 
@@ -80,22 +80,22 @@ module _ (f : List ℕ) (t : Trailer) (s : List ℕ) (z : Sizes) (rows loads bou
   wf : WellFormed a
   wf = ready .array .formed
 
-  pub node-is : (i : ℕ) (r : Record) → Reads f t i r → nodeAt a i ≡ nodeOf r
-  node-is i r h = node-of f t i (h .below) ∙ ap nodeOf (sym (h .is))
+  pub node-is : {i : ℕ} {r : Record} → Reads f t i r → nodeAt a i ≡ nodeOf r
+  node-is {i} h = node-of f t i (h .below) ∙ ap nodeOf (sym (h .is))
 
-  pub agent-is : (i : ℕ) (r : Record) → Reads f t i r → 4 ≤ r .kind → agentAt a i ≡ some (agentIn a r)
-  agent-is i r h k =
-      agent-at a (wf .children) i (h .below) ∙ ap (agentOf (λ l. procAt a l)) (node-is i r h) ∙ agent-some a (λ l. procAt a l) r k
+  pub agent-is : {i : ℕ} {r : Record} → Reads f t i r → 4 ≤ r .kind → agentAt a i ≡ some (agentIn a r)
+  agent-is {i} {r} h k =
+      agent-at a (wf .children) i (h .below) ∙ ap (agentOf (λ l. procAt a l)) (node-is h) ∙ agent-some a (λ l. procAt a l) r k
 
-  pub no-agent : (i : ℕ) (r : Record) → Reads f t i r → r .kind < 4 → agentAt a i ≡ none
-  no-agent i r h k = agent-at a (wf .children) i (h .below) ∙ ap (agentOf (λ l. procAt a l)) (node-is i r h) ∙ agent-none a (λ l. procAt a l) r k
+  pub no-agent : {i : ℕ} {r : Record} → Reads f t i r → r .kind < 4 → agentAt a i ≡ none
+  no-agent {i} {r} h k = agent-at a (wf .children) i (h .below) ∙ ap (agentOf (λ l. procAt a l)) (node-is h) ∙ agent-none a (λ l. procAt a l) r k
 
   -- a record has as many arguments as its arity says, at most 8
-  pub small-arity : (i : ℕ) (r : Record) → Reads f t i r → r .arity ≤ 8
-  small-arity i r h = rw (h .is) (arity-small f t (ready .array) i (h .below))
+  pub small-arity : {i : ℕ} {r : Record} → Reads f t i r → r .arity ≤ 8
+  small-arity {i} h = rw (h .is) (arity-small f t (ready .array) i (h .below))
 
-  pub arity-is : (i : ℕ) (r : Record) → Reads f t i r → length (argsOf r) ≡ r .arity
-  arity-is i r h =
+  pub arity-is : {i : ℕ} {r : Record} → Reads f t i r → length (argsOf r) ≡ r .arity
+  arity-is {i} h =
       let e : length (recordOf f t i .args) ≡ 8 = eight-args f (t .start + 16 * i) (let l = h .below in omega (arith, ready .array .fills)) in
       rw (h .is) (length-take-le (recordOf f t i .arity) (recordOf f t i .args) (omega (arith, arity-small f t (ready .array) i (h .below))))
 
@@ -103,31 +103,31 @@ module _ (f : List ℕ) (t : Trailer) (s : List ℕ) (z : Sizes) (rows loads bou
   arg-is r n h = getD-take (r .arity) (r .args) n 0 h
 
   -- its names are below N
-  named : (i : ℕ) (r : Record) → Reads f t i r → 4 ≤ r .kind → AgentWf a i (sortOf (r .kind)) (r .name) (argsOf r) (procAt a (r .left))
-  named i r h k =
-      (rw (agent-tree a (wf .children) i (agentIn a r) (agent-is i r h k)) at (wf-procAt a (wf .children) (wf .named) i (h .below))) .0
+  named : {i : ℕ} {r : Record} → Reads f t i r → 4 ≤ r .kind → AgentWf a i (sortOf (r .kind)) (r .name) (argsOf r) (procAt a (r .left))
+  named {i} {r} h k =
+      (rw (agent-tree a (wf .children) i (agentIn a r) (agent-is h k)) at (wf-procAt a (wf .children) (wf .named) i (h .below))) .0
 
-  pub name-below : (i : ℕ) (r : Record) → Reads f t i r → 4 ≤ r .kind → r .name < z .names
-  name-below i r h k = rw (ready .table .laid .names) (named i r h k .channel)
+  pub name-below : {i : ℕ} {r : Record} → Reads f t i r → 4 ≤ r .kind → r .name < z .names
+  name-below h k = rw (ready .table .laid .names) (named h k .channel)
 
-  pub arg-below : (i : ℕ) (r : Record) → Reads f t i r → 4 ≤ r .kind → (n : ℕ) → n < r .arity → getD (r .args) n 0 < z .names
-  arg-below i r h k n l =
-      let e = arity-is i r h in
-      let b = All-getD (λ y. y < t .names) (argsOf r) n 0 (named i r h k .args) (omega arith) in
+  pub arg-below : {i : ℕ} {r : Record} → Reads f t i r → 4 ≤ r .kind → (n : ℕ) → n < r .arity → getD (r .args) n 0 < z .names
+  arg-below {i} {r} h k n l =
+      let e = arity-is h in
+      let b = All-getD (λ y. y < t .names) (argsOf r) n 0 (named h k .args) (omega arith) in
       rw (← arg-is r n l, ready .table .laid .names) b
 
   -- its continuation is a node
-  pub left-below : (i : ℕ) (r : Record) → Reads f t i r → 4 ≤ r .kind → r .left < t .nodes
+  pub left-below : {i : ℕ} {r : Record} → Reads f t i r → 4 ≤ r .kind → r .left < t .nodes
   unfolding children
-  left-below i r h k = child-above a (wf .children) i (r .left) (rw (node-is i r h, agent-node r k) (has-here (r .left) [])) .1
+  left-below {i} {r} h k = child-above a (wf .children) i (r .left) (rw (node-is h, agent-node r k) (has-here (r .left) [])) .1
 
   -- its load is its weight
-  pub load-agent : (i : ℕ) (r : Record) → Reads f t i r → 4 ≤ r .kind → (w : ℕ → ℕ) → load w (procAt a i) ≡ w i
+  pub load-agent : {i : ℕ} {r : Record} → Reads f t i r → 4 ≤ r .kind → (w : ℕ → ℕ) → load w (procAt a i) ≡ w i
   unfolding loadOf
-  load-agent i r h k w = load-at a (wf .children) i (h .below) w ∙ ap (loadOf w i (λ l. load w (procAt a l))) (node-is i r h ∙ agent-node r k)
+  load-agent {i} {r} h k w = load-at a (wf .children) i (h .below) w ∙ ap (loadOf w i (λ l. load w (procAt a l))) (node-is h ∙ agent-node r k)
 
-  pub weight-is : (i : ℕ) (r : Record) → Reads f t i r → 4 ≤ r .kind → (n : ℕ) → n < z .balances → getD loads (24 * i + n) 0 ≡ (T .balance n) .weight i
-  weight-is i r h k n l = ready .weighs i n (h .below) l ∙ load-agent i r h k ((T .balance n) .weight)
+  pub weight-is : {i : ℕ} {r : Record} → Reads f t i r → 4 ≤ r .kind → (n : ℕ) → n < z .balances → getD loads (24 * i + n) 0 ≡ (T .balance n) .weight i
+  weight-is {i} h k n l = ready .weighs i n (h .below) l ∙ load-agent h k ((T .balance n) .weight)
 
   -- ---- rows
 
@@ -137,6 +137,9 @@ module _ (f : List ℕ) (t : Trailer) (s : List ℕ) (z : Sizes) (rows loads bou
   pub row-fits : (v : ℕ) → v < z .names → 4 * v + 3 < length rows
   row-fits v h = let n = names-few in let e = ready .manyRows in omega arith
 
+  pub name-row : {i : ℕ} {r : Record} → Reads f t i r → 4 ≤ r .kind → 4 * r .name + 3 < length rows
+  name-row {i} {r} h k = row-fits (r .name) (name-below h k)
+
   pub share-is : (u v : ℕ) → u < z .names → v < z .names → share rows (4 * u) (4 * v) ≡ shareBit T u v
   unfolding share shareBit
   share-is u v hu hv = any-same rowBits _ _ (λ o h. ap₂ _&&_ (ready .marks u o hu h) (ready .marks v o hv h))
@@ -145,77 +148,94 @@ module _ (f : List ℕ) (t : Trailer) (s : List ℕ) (z : Sizes) (rows loads bou
   unfolding inside within
   inside-is u v hu hv = every-same rowBits _ _ (λ o h. ap₂ (λ (x y : Bool). not x || y) (ready .marks u o hu h) (ready .marks v o hv h))
 
+  -- ---- a node of a kind below 5 receives in no pair
+
+  pub no-receiver : {p : ℕ} {rp : Record} → Reads f t p rp → rp .kind < 5 → (q : ℕ) (g : Agent → Agent → Verdict)
+      → onLive T p q (agentAt a p) (agentAt a q) g ≡ clear
+  unfolding onLive
+  no-receiver {p} {rp} h k q g =
+      ⊎-elim
+      (λ (e : ltb (rp .kind) 4 ≡ true). rw (no-agent h (ltb-true _ _ e)))
+      (λ (e : ltb (rp .kind) 4 ≡ false). let l = ltb-false _ _ e in rw (agent-is h l) (sends (omega arith) (agentAt a q)))
+      (decided (ltb (rp .kind) 4))
+    where
+      sends : rp .kind ≡ 4 → (x : Option Agent) → onLive T p q (some (agentIn a rp)) x g ≡ clear
+      sends e none = refl
+      sends e (some y) =
+          clear-under (live T p q (agentIn a rp) y) (g (agentIn a rp) y)
+          (λ l. absurd (true≢false (sym (live-Live T p q (agentIn a rp) y l .receiver) ∙ receives-kind (rp .kind) ∙ ap not (eq-eqb (rp .kind) 4 e))))
+
   -- ---- live pairs: receiver p of kind 5 or above, and q
 
-  module _ (p : ℕ) (rp : Record) (hp : Reads f t p rp) (kp : 5 ≤ rp .kind) (q : ℕ) (rq : Record) (hq : Reads f t q rq) where
+  module _ {p : ℕ} {rp : Record} (hp : Reads f t p rp) (kp : 5 ≤ rp .kind) {q : ℕ} {rq : Record} (hq : Reads f t q rq) where
     receives-p : receives (sortOf (rp .kind)) ≡ true
     receives-p = receives-kind (rp .kind) ∙ ap not (ne-eqb (rp .kind) 4 (λ e. absurd (omega arith)))
 
     receiver-is : agentAt a p ≡ some (agentIn a rp)
-    receiver-is = agent-is p rp hp (omega arith)
+    receiver-is = agent-is hp (omega arith)
 
     -- a pair whose second node is no out
-    pub live-else : (rq .kind ≡ 4 → ⊥) → live T p q (agentIn a rp) (agentIn a rq) ≡ false
+    pub live-else : (rq .kind ≡ 4 → ⊥) → livePair a T p rp q rq ≡ false
     unfolding live
     live-else n = rw (receives-p, receives-kind (rq .kind), ne-eqb (rq .kind) 4 n)
 
     fits-is : rq .kind ≡ 4
-        → fitBoth T p q ≡ every (z .balances) (λ k. leb (getD loads (24 * p + k) 0 + getD loads (24 * q + k) 0) (getD bounds k 0))
+        → fitBoth T p q ≡ every (z .balances) (λ k. bearsBoth loads bounds p q k)
     unfolding fitBoth
     fits-is e =
         every-same (z .balances) _ _ (λ k h.
-        ap₂ leb (ap₂ _+_ (sym (weight-is p rp hp (omega arith) k h)) (sym (weight-is q rq hq (omega arith) k h))) (sym (ready .bears k h)))
+        ap₂ leb (ap₂ _+_ (sym (weight-is hp (omega arith) k h)) (sym (weight-is hq (omega arith) k h))) (sym (ready .bears k h)))
 
-    live-out : rq .kind ≡ 4 → live T p q (agentIn a rp) (agentIn a rq)
+    live-out : rq .kind ≡ 4 → livePair a T p rp q rq
         ≡ (eqb (rp .arity) (rq .arity) && share rows (4 * rp .name) (4 * rq .name))
-        && every (z .balances) (λ k. leb (getD loads (24 * p + k) 0 + getD loads (24 * q + k) 0) (getD bounds k 0))
+        && every (z .balances) (λ k. bearsBoth loads bounds p q k)
     unfolding live
     live-out e =
-        let sh = share-is (rp .name) (rq .name) (name-below p rp hp (omega arith)) (name-below q rq hq (omega arith)) in
-        rw (receives-p, receives-kind (rq .kind), eq-eqb (rq .kind) 4 e, arity-is p rp hp, arity-is q rq hq, ← sh, fits-is e)
+        let sh = share-is (rp .name) (rq .name) (name-below hp (omega arith)) (name-below hq (omega arith)) in
+        rw (receives-p, receives-kind (rq .kind), eq-eqb (rq .kind) 4 e, arity-is hp, arity-is hq, ← sh, fits-is e)
 
     -- one test after another
-    pub live-arity : rq .kind ≡ 4 → (rp .arity ≡ rq .arity → ⊥) → live T p q (agentIn a rp) (agentIn a rq) ≡ false
+    pub live-arity : rq .kind ≡ 4 → (rp .arity ≡ rq .arity → ⊥) → livePair a T p rp q rq ≡ false
     live-arity e n = live-out e ∙ rw (ne-eqb (rp .arity) (rq .arity) n)
 
     module _ (e : rq .kind ≡ 4) (n : rp .arity ≡ rq .arity) where
-      pub live-unshared : share rows (4 * rp .name) (4 * rq .name) ≡ false → live T p q (agentIn a rp) (agentIn a rq) ≡ false
+      pub live-unshared : share rows (4 * rp .name) (4 * rq .name) ≡ false → livePair a T p rp q rq ≡ false
       live-unshared h = live-out e ∙ rw (eq-eqb (rp .arity) (rq .arity) n, h)
 
-      pub live-fits : share rows (4 * rp .name) (4 * rq .name) ≡ true → live T p q (agentIn a rp) (agentIn a rq)
-          ≡ every (z .balances) (λ k. leb (getD loads (24 * p + k) 0 + getD loads (24 * q + k) 0) (getD bounds k 0))
+      pub live-fits : share rows (4 * rp .name) (4 * rq .name) ≡ true → livePair a T p rp q rq
+          ≡ every (z .balances) (λ k. bearsBoth loads bounds p q k)
       live-fits h = live-out e ∙ rw (eq-eqb (rp .arity) (rq .arity) n, h)
 
     -- what a live pair is
-    pub live-sends : live T p q (agentIn a rp) (agentIn a rq) ≡ true → rq .kind ≡ 4
-    live-sends l = ⊎-elim (λ (e : eqb (rq .kind) 4 ≡ true). eqb-true _ _ e) (λ (e : eqb (rq .kind) 4 ≡ false). absurd (true≢false (sym l ∙ live-else (eqb-false _ _ e)))) (decided (eqb (rq .kind) 4))
+    pub live-sends : livePair a T p rp q rq ≡ true → rq .kind ≡ 4
+    live-sends l =
+        ⊎-elim
+        (λ (e : eqb (rq .kind) 4 ≡ true). eqb-true _ _ e)
+        (λ (e : eqb (rq .kind) 4 ≡ false). absurd (true≢false (sym l ∙ live-else (eqb-false _ _ e))))
+        (decided (eqb (rq .kind) 4))
 
-    pub live-arities : live T p q (agentIn a rp) (agentIn a rq) ≡ true → rp .arity ≡ rq .arity
-    live-arities l = sym (arity-is p rp hp) ∙ live-Live T p q (agentIn a rp) (agentIn a rq) l .arities ∙ arity-is q rq hq
+    pub live-arities : livePair a T p rp q rq ≡ true → rp .arity ≡ rq .arity
+    live-arities l = sym (arity-is hp) ∙ live-Live T p q (agentIn a rp) (agentIn a rq) l .arities ∙ arity-is hq
 
     -- a search at the pair, by the two records
     pub pair-is : (g : Agent → Agent → Verdict) → onLive T p q (agentAt a p) (agentAt a q) g
-        ≡ under (live T p q (agentIn a rp) (agentIn a rq)) (g (agentIn a rp) (agentIn a rq))
+        ≡ under (livePair a T p rp q rq) (g (agentIn a rp) (agentIn a rq))
     unfolding onLive under
-    pair-is g = ⊎-elim some-agent no-agent-q (decided (ltb (rq .kind) 4))
-      where
-        no-agent-q : ltb (rq .kind) 4 ≡ false → onLive T p q (agentAt a p) (agentAt a q) g ≡ under (live T p q (agentIn a rp) (agentIn a rq)) (g (agentIn a rp) (agentIn a rq))
-        no-agent-q e = rw (receiver-is, agent-is q rq hq (ltb-false _ _ e))
-
-        some-agent : ltb (rq .kind) 4 ≡ true → onLive T p q (agentAt a p) (agentAt a q) g ≡ under (live T p q (agentIn a rp) (agentIn a rq)) (g (agentIn a rp) (agentIn a rq))
-        some-agent e =
-            let k = ltb-true _ _ e in
-            rw (receiver-is, no-agent q rq hq k, live-else (λ d. absurd (omega arith)))
+    pair-is g =
+        ⊎-elim
+        (λ (e : ltb (rq .kind) 4 ≡ true). let k = ltb-true _ _ e in rw (receiver-is, no-agent hq k, live-else (λ d. absurd (omega arith))))
+        (λ (e : ltb (rq .kind) 4 ≡ false). rw (receiver-is, agent-is hq (ltb-false _ _ e)))
+        (decided (ltb (rq .kind) 4))
 
     -- ---- figures of a live pair
 
-    module _ (l : live T p q (agentIn a rp) (agentIn a rq) ≡ true) where
+    module _ (l : livePair a T p rp q rq ≡ true) where
       pub argument-is : (n : ℕ) → n < rp .arity → argumentHolds rows rp rq n ≡ within T (getD (argsOf rq) n 0) (getD (argsOf rp) n 0)
       argument-is n h =
           let e = live-arities l in
           let k = live-sends l in
           let hq′ : n < rq .arity = omega arith in
-          inside-is (getD (rq .args) n 0) (getD (rp .args) n 0) (arg-below q rq hq (omega arith) n hq′) (arg-below p rp hp (omega arith) n h)
+          inside-is (getD (rq .args) n 0) (getD (rp .args) n 0) (arg-below hq (omega arith) n hq′) (arg-below hp (omega arith) n h)
           ∙ ap₂ (within T) (sym (arg-is rq n hq′)) (sym (arg-is rp n h))
 
       pub balance-is : (n : ℕ) → n < z .balances
@@ -223,6 +243,6 @@ module _ (f : List ℕ) (t : Trailer) (s : List ℕ) (z : Sizes) (rows loads bou
       balance-is n h =
           let k = live-sends l in
           ap₂ leb
-          (ap₂ _+_ (ready .weighs (rp .left) n (left-below p rp hp (omega arith)) h) (ready .weighs (rq .left) n (left-below q rq hq (omega arith)) h))
-          (ap₂ _+_ (weight-is q rq hq (omega arith) n h)
-          (ap (λ (x : ℕ). cond (eqb (rp .kind) 5) x 0) (weight-is p rp hp (omega arith) n h) ∙ taken-kind (rp .kind) kp ((T .balance n) .weight p)))
+          (ap₂ _+_ (ready .weighs (rp .left) n (left-below hp (omega arith)) h) (ready .weighs (rq .left) n (left-below hq (omega arith)) h))
+          (ap₂ _+_ (weight-is hq (omega arith) n h)
+          (ap (λ (x : ℕ). cond (eqb (rp .kind) 5) x 0) (weight-is hp (omega arith) n h) ∙ taken-kind (rp .kind) kp ((T .balance n) .weight p)))

@@ -1,15 +1,15 @@
 -- Rules 3 and 4 as one search over receiver, sender and a last figure, and what the checker's own lists hold.
-use Prim.Native.Nat.{ℕ, suc, _+_, _*_, _≤_, _<_}
+use Prim.Native.Nat.{ℕ, suc, _+_, _*_, _<_}
 use mathlib.Core.Path.{_≡_}
 use mathlib.Core.Bool.{Bool, cond}
 use mathlib.Core.List.{List, [], _∷_}
 use lib.Dec.{eqb, leb}
 use lib.ListN.{length, getD}
-use Rattle.laws.specs.Search.{Found, clear, hit, test, first}
+use Rattle.laws.specs.Search.{clear, hit, test, first}
 use Rattle.wire.specs.Numbers.{u32At}
 use Rattle.marks.specs.Marks.{marked, inside}
 use Rattle.model.specs.Tree.{Array, Sort, out, inp, resource, Agent, procAt}
-use Rattle.model.specs.Rules.{Table, Broken, Verdict, at, within, loadLeft, weightGone}
+use Rattle.model.specs.Rules.{Table, Broken, Verdict, at, live, within, loadLeft, weightGone, pairs}
 use Rattle.records.specs.declared.Record.{Record}
 use Rattle.records.specs.declared.Trailer.{Trailer}
 use Rattle.records.specs.Record.{recordOf, argsOf, arrayOf}
@@ -34,6 +34,10 @@ pub record Reads (f : List ℕ) (t : Trailer) (i : ℕ) (r : Record) : Type 0 wh
   pub below : i < t .nodes
   pub is : r ≡ recordOf f t i
 
+-- the nodes i and j, of the records given, are a live pair
+abbrev pub livePair : Array → Table → ℕ → Record → ℕ → Record → Bool
+livePair a t i ri j rj = live t i j (agentIn a ri) (agentIn a rj)
+
 -- ---- the last figure: arguments for rule 3, balances for rule 4
 
 abbrev pub figures : ℕ → Table → Agent → ℕ
@@ -43,6 +47,10 @@ abbrev pub figureHolds : ℕ → Table → ℕ → ℕ → Agent → Agent → �
 figureHolds rule t i j p q n =
     cond (eqb rule 3) (within t (getD (q .args) n 0) (getD (p .args) n 0)) (leb (loadLeft (t .balance n) p q) (weightGone (t .balance n) i j p))
 
+-- the rule holds at figure n of the nodes i and j, of the records given
+abbrev pub holdsAt : ℕ → Array → Table → ℕ → Record → ℕ → Record → ℕ → Bool
+holdsAt rule a t i ri j rj n = figureHolds rule t i j (agentIn a ri) (agentIn a rj) n
+
 -- "(p, q, argument from 1)", "(p, q, balance)"
 abbrev pub placeOf : ℕ → ℕ → ℕ → ℕ → Broken
 placeOf rule i j n = cond (eqb rule 3) (at 3 (i ∷ j ∷ suc n ∷ [])) (at 4 (i ∷ j ∷ n ∷ []))
@@ -50,12 +58,25 @@ placeOf rule i j n = cond (eqb rule 3) (at 3 (i ∷ j ∷ suc n ∷ [])) (at 4 (
 unfoldable pub atPair : ℕ → Table → ℕ → ℕ → Agent → Agent → Verdict
 atPair rule t i j p q = first (figures rule t p) λ n. test (figureHolds rule t i j p q n) (placeOf rule i j n)
 
+-- rule 3 or 4 over all live pairs
+abbrev pub pairsOf : ℕ → Array → Table → Verdict
+pairsOf rule a t = pairs a t (atPair rule t)
+
 -- what a search over the pairs answers
 abbrev pub pairSays : ℕ → Pair → Verdict
 pairSays rule Nowhere = clear
 pairSays rule (At i j n) = hit (placeOf rule i j n)
 
+-- a last figure is small: there are at most 8 arguments and 24 balances
+abbrev pub SmallFigure : Pair → Type 0
+SmallFigure Nowhere = Unit {0}
+SmallFigure (At i j n) = n < 24
+
 -- ---- the same by the checker's own lists
+
+-- balance k bears the weights of nodes p and q
+abbrev pub bearsBoth : List ℕ → List ℕ → ℕ → ℕ → ℕ → Bool
+bearsBoth loads bounds p q k = leb (getD loads (24 * p + k) 0 + getD loads (24 * q + k) 0) (getD bounds k 0)
 
 abbrev pub argumentHolds : List ℕ → Record → Record → ℕ → Bool
 argumentHolds rows rp rq n = inside rows (4 * getD (rq .args) n 0) rows (4 * getD (rp .args) n 0)

@@ -5,12 +5,12 @@ ghost use mathlib.Core.Path.{_≡_};
 ghost use mathlib.Core.Bool.{true, cond};
 ghost use Prim.Native.Nat.{_+_, _*_, _<_, _≤_};
 ghost use lib.ListN.{length, getD};
-ghost use lib.Dec.{leb, eqb};
+ghost use lib.Dec.{eqb};
 ghost use Rattle.laws.specs.Search.{every};
 ghost use Rattle.model.specs.Rules as M;
 ghost use Rattle.records.specs.Record.{arrayOf};
 ghost use Rattle.layout.specs.Table.{tableOf};
-ghost use Rattle.pairs.specs.Pairs.{agentIn, figureHolds, argumentHolds, balanceHolds, atPair, pairSays, Reads, Ready};
+ghost use Rattle.pairs.specs.Pairs.{livePair, holdsAt, bearsBoth, argumentHolds, balanceHolds, pairSays, Reads, Ready, pairsOf, SmallFigure};
 use layout::Sizes;
 use records::Record;
 use records::Trailer;
@@ -24,7 +24,7 @@ pub enum Pair {
 // No balance has the weights of nodes p and q above its bound.
 fn fit_both(z: Sizes, loads: &[u32], bounds: &[u32], p: usize, q: usize) -> bool
     requires { ⌜ (z .balances ≤ 24) × (p < 1024) × (q < 1024) × (length (now loads) ≡ 24576) × (length (now bounds) ≡ 24) ⌝ }
-    ensures { λ b. ⌜ b ≡ every (z .balances) (λ k. leb (getD (now (loads .entry)) (24 * p + k) 0 + getD (now (loads .entry)) (24 * q + k) 0) (getD (now (bounds .entry)) k 0)) ⌝ }
+    ensures { λ b. ⌜ b ≡ every (z .balances) (λ k. bearsBoth (now (loads .entry)) (now (bounds .entry)) p q k) ⌝ }
 {
     let at = 24 * p;
     let to = 24 * q;
@@ -59,7 +59,7 @@ fn live(
 ) -> bool
     requires { ⌜ Ready (now file) t (now table) z (now rows) (now loads) (now bounds) ⌝ }
     requires { ⌜ Reads (now file) t p rp × Reads (now file) t q rq × (5 ≤ rp .kind) ⌝ }
-    ensures { λ b. ⌜ b ≡ M.live (tableOf (now (table .entry)) z) p q (agentIn (arrayOf (now (file .entry)) t) rp) (agentIn (arrayOf (now (file .entry)) t) rq) ⌝ }
+    ensures { λ b. ⌜ b ≡ livePair (arrayOf (now (file .entry)) t) (tableOf (now (table .entry)) z) p rp q rq ⌝ }
 {
     if rq.kind != 4 {
         return false;
@@ -129,8 +129,8 @@ fn figure_holds(
 ) -> bool
     requires { ⌜ Ready (now file) t (now table) z (now rows) (now loads) (now bounds) ⌝ }
     requires { ⌜ Reads (now file) t p rp × Reads (now file) t q rq × (5 ≤ rp .kind) × (n < cond (eqb rule 3) (rp .arity) (z .balances)) ⌝ }
-    requires { ⌜ M.live (tableOf (now table) z) p q (agentIn (arrayOf (now file) t) rp) (agentIn (arrayOf (now file) t) rq) ≡ true ⌝ }
-    ensures { λ b. ⌜ b ≡ figureHolds rule (tableOf (now (table .entry)) z) p q (agentIn (arrayOf (now (file .entry)) t) rp) (agentIn (arrayOf (now (file .entry)) t) rq) n ⌝ }
+    requires { ⌜ livePair (arrayOf (now file) t) (tableOf (now table) z) p rp q rq ≡ true ⌝ }
+    ensures { λ b. ⌜ b ≡ holdsAt rule (arrayOf (now (file .entry)) t) (tableOf (now (table .entry)) z) p rp q rq n ⌝ }
 {
     if rule == 3 {
         return argument_holds(rows, rp, rq, n);
@@ -150,7 +150,7 @@ pub fn first_pair(
     bounds: &[u32],
 ) -> Pair
     requires { ⌜ Ready (now file) t (now table) z (now rows) (now loads) (now bounds) ⌝ }
-    ensures { λ r. ⌜ pairSays rule r ≡ M.pairs (arrayOf (now (file .entry)) t) (tableOf (now (table .entry)) z) (atPair rule (tableOf (now (table .entry)) z)) ⌝ }
+    ensures { λ r. ⌜ (pairSays rule r ≡ pairsOf rule (arrayOf (now (file .entry)) t) (tableOf (now (table .entry)) z)) × SmallFigure r ⌝ }
 {
     let nodes = t.nodes;
     let mut answer = Pair::Nowhere;

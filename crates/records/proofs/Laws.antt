@@ -3,16 +3,18 @@ use Prim.Native.Nat.{ℕ, zero, suc, _+_, _*_, _≤_, _<_}
 use native.Mathlib.Nat.{add-suc}
 use native.Mathlib.Omega.{arith}
 use mathlib.Core.Path.{_≡_, refl, sym, ap, _∙_}
-use mathlib.Core.Bool.{true, false, cond}
+use mathlib.Core.Logic.{_⊎_, ⊎-elim}
+use mathlib.Core.Bool.{true, false, cond, false≢true}
 use mathlib.Core.List.{List, [], _∷_}
-use lib.Dec.{eqb, ltb}
+use lib.Dec.{eqb, leb, ltb}
 use lib.ListN.{length, getD, take, drop, length-drop, length-map}
 use lib.Seq.{drop-cons, length-take-le}
 use mir.Val.{Val}
 use denote.Laws.{Is}
 use denote.Struct.Declared.{row}
-use borrow.Author.Tests.{lt-ltb, ne-eqb}
-use Rattle.model.specs.Tree.{Node, out, inp, resource, nodeAt}
+use borrow.Author.Tests.{ltb-true, ltb-false, lt-ltb, le-ltb, le-leb, ne-eqb}
+use Rattle.laws.proofs.Search.{decided}
+use Rattle.model.specs.Tree.{Array, Node, out, inp, resource, nodeAt, isAgent}
 use Rattle.records.specs.declared.Record.{Record}
 use Rattle.records.specs.declared.Trailer.{Trailer}
 use Rattle.records.specs.Record.{recordAt, recordOf, argsOf, nodeOf, arrayOf}
@@ -77,3 +79,21 @@ module _ (r : Record) (P : ℕ → Node → Type 0)
 pub node-of : (s : List ℕ) (t : Trailer) (i : ℕ) → i < t .nodes → nodeAt (arrayOf s t) i ≡ nodeOf (recordOf s t i)
 unfolding nodeAt
 node-of s t i h = rw (lt-ltb i (t .nodes) h)
+
+-- ---- agents: a node below M is one where its record's kind says so, and past M there is none
+
+pub agent-kind : (r : Record) → leb 4 (r .kind) ≡ isAgent (nodeOf r)
+unfolding isAgent
+agent-kind r = by-kind r (λ k node. leb 4 k ≡ isAgent node) refl refl refl refl refl refl (λ k h. le-leb 4 k (omega arith))
+
+pub agent-below : (s : List ℕ) (t : Trailer) (i : ℕ) → i < t .nodes → leb 4 (recordOf s t i .kind) ≡ isAgent (nodeAt (arrayOf s t) i)
+agent-below s t i h = agent-kind (recordOf s t i) ∙ ap isAgent (sym (node-of s t i h))
+
+pub agent-past : (a : Array) (i : ℕ) → a .size ≤ i → false ≡ isAgent (nodeAt a i)
+unfolding nodeAt isAgent
+agent-past a i h = rw (le-ltb i (a .size) h)
+
+pub agent-inside : (a : Array) (i : ℕ) → isAgent (nodeAt a i) ≡ true → i < a .size
+agent-inside a i e =
+    ⊎-elim (λ (l : ltb i (a .size) ≡ true). ltb-true i (a .size) l) (λ (l : ltb i (a .size) ≡ false). absurd (false≢true (agent-past a i (ltb-false i (a .size) l) ∙ e)))
+    (decided (ltb i (a .size)))

@@ -13,7 +13,7 @@ use borrow.Author.Tests.{ltb-true, ltb-false}
 use Rattle.laws.specs.Bits.{bit}
 use Rattle.laws.proofs.Search.{decided}
 use Rattle.laws.proofs.Bits.{bit-low, bit-high}
-use Rattle.wire.specs.Numbers.{u32At, u64At, wordSum}
+use Rattle.wire.specs.Numbers.{u16At, u32At, u64At, wordSum}
 
 pub wordSum-step : (s : List ℕ) (n : ℕ) → wordSum s (n + 1) ≡ (wordSum s n + u32At s (4 * n)) % 2 ^ 32
 unfolding wordSum
@@ -62,3 +62,8 @@ bytes-u64 s i =
 
 pub bit-u64 : (s : List ℕ) → ((k : ℕ) → getD s k 0 < 256) → (i k : ℕ) → k < 64 → bit (u64At s i) k ≡ bit (getD s (i + k / 8) 0) (k % 8)
 bit-u64 s b i k h = ap (λ (n : ℕ). bit n k) (bytes-u64 s i) ∙ bit-bytes (λ j. getD s (i + j) 0) (λ j. b (i + j)) 8 k h
+
+-- a 16-bit number of a file
+pub u16-small : (s : List ℕ) → ((k : ℕ) → getD s k 0 < 256) → (i : ℕ) → u16At s i < 65536
+unfolding u16At
+u16-small s bytes i = omega (arith, bytes i, bytes (i + 1))

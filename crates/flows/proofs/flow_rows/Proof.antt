@@ -9,7 +9,7 @@ use borrow.Author.Count.{below-none}
 use borrow.Author.Needs.{needs}
 use Rattle.wire.specs.Numbers.{u64At}
 use Rattle.marks.proofs.Laws.{marked-bytes}
-use Rattle.flows.proofs.Laws.{set-more}
+use Rattle.laws.proofs.Lists.{set-more}
 use Rattle.flows.proofs.flow_rows.Statement.{statement}
 use Rattle.flows.proofs.flow_rows.Tie as tie
 

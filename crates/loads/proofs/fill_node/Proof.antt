@@ -7,7 +7,9 @@ use lib.ListN.{length, length-set}
 use Rattle.layout.specs.Table.{balanceAt, weightAt, tableOf}
 use Rattle.layout.proofs.Laws.{balance-next, balance-fits}
 use Rattle.loads.specs.Loads.{loadFrom}
-use Rattle.loads.proofs.Laws.{u16-small, SameAbove, RowTo, above-set, row-set, child-of, half-child, filled-row}
+use native.Mathlib.Nat.{le-of-suc-le-suc}
+use Rattle.wire.proofs.Laws.{u16-small}
+use Rattle.loads.proofs.Laws.{SameAbove, RowTo, above-set, row-set, child-of, half-child, filled-row}
 use native.Mathlib.Omega.{arith}
 use borrow.Author.Needs.{needs}
 use Rattle.loads.proofs.fill_node.Statement.{statement}
@@ -72,7 +74,7 @@ load-of-requires c κs =
     let r = c .before .before .before .before .before .before .before .record-at in
     half-child (now (x .file)) (x .t) (p .0 .1) (x .i) (p .1 .1) (r .result) (r .ensures) (tableOf (now (x .table)) (x .z))
     (p .0 .2 .fewBalances) (now (x .loads)) (l .loads) (p .1 .2) (l .inv .3) (l .inv .2 ∙ p .1 .0) (l .k) (c .before .before .if1 .taken)
-    (λ j. u16-small (now (x .table)) (λ m. omega (arith, known m)) _)
+    (λ j. le-of-suc-le-suc (u16-small (now (x .table)) (λ m. omega (arith, known m)) _))
 
 mul-loads : tie.Need-mul-loads Inv-loop μ-loop
 mul-loads c = search needs

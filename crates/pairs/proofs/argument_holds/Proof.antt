@@ -1,5 +1,4 @@
 -- What `contained` ensures, at the rows of the two names.
-use native.Mathlib.Omega.{arith}
 use borrow.Author.Needs.{needs}
 use Rattle.pairs.proofs.argument_holds.Statement.{statement}
 use Rattle.pairs.proofs.argument_holds.Tie as tie

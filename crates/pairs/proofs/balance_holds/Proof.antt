@@ -1,10 +1,6 @@
 -- Entries are 32-bit numbers, so sums of two fit in 64 bits; what goes is by the receiver's kind.
-use mathlib.Core.Path.{_≡_, ap, ap₂, _∙_}
-use lib.Dec.{leb}
-use Prim.Native.Nat.{ℕ, _+_}
 use native.Mathlib.Nat.{add-zero}
 use borrow.Author.Tests.{eq-eqb, ne-eqb}
-use native.Mathlib.Omega.{arith}
 use borrow.Author.Needs.{needs}
 use Rattle.pairs.proofs.balance_holds.Statement.{statement}
 use Rattle.pairs.proofs.balance_holds.Tie as tie
@@ -77,11 +73,17 @@ add-result c = search needs
 
 returns : tie.Need-returns
 returns c =
-    rw (eq-eqb _ _ (c .before .before .if1 .taken), c .before .before .before .before .before .before .before .before .before .wide .ensures .0, c .before .before .before .before .before .before .wide2 .ensures .0, c .before .before .before .before .wide3 .ensures .0, c .wide4 .ensures .0)
+    let left-p = c .before .before .before .before .before .before .before .before .before .wide .ensures .0 in
+    let left-q = c .before .before .before .before .before .before .wide2 .ensures .0 in
+    let weight-q = c .before .before .before .before .wide3 .ensures .0 in
+    rw (eq-eqb _ _ (c .before .before .if1 .taken), left-p, left-q, weight-q, c .wide4 .ensures .0)
 
 returns-2 : tie.Need-returns-2
 returns-2 c =
-    rw (ne-eqb _ _ (c .if1 .left), c .before .before .before .before .before .before .before .wide .ensures .0, c .before .before .before .before .wide2 .ensures .0, c .before .before .wide3 .ensures .0, add-zero)
+    let left-p = c .before .before .before .before .before .before .before .wide .ensures .0 in
+    let left-q = c .before .before .before .before .wide2 .ensures .0 in
+    let weight-q = c .before .before .wide3 .ensures .0 in
+    rw (ne-eqb _ _ (c .if1 .left), left-p, left-q, weight-q, add-zero)
 
 pub balance-holds-spec : {M : Type 1} → statement M
 balance-holds-spec =

@@ -1,13 +1,9 @@
 -- By the rule's number: what the lists say of an argument or of a balance.
-use Prim.Native.Nat.{ℕ, _<_}
-use mathlib.Core.Path.{_≡_, sym, ap, _∙_}
-use mathlib.Core.Bool.{cond}
-use lib.Dec.{eqb}
-use denote.Ref.{now}
+use Prim.Native.Nat.{_<_}
+use mathlib.Core.Path.{_∙_}
 use borrow.Author.Tests.{eq-eqb, ne-eqb}
 use Rattle.pairs.proofs.Laws.{live-sends, live-arities, arg-below, left-below, row-fits, small-arity, argument-is, balance-is}
 use native.Mathlib.Omega.{arith}
-use borrow.Author.Needs.{needs}
 use Rattle.pairs.proofs.figure_holds.Statement.{statement}
 use Rattle.pairs.proofs.figure_holds.Tie as tie
 
@@ -15,37 +11,41 @@ argument-holds-requires : tie.Need-argument-holds-requires
 argument-holds-requires c κs =
     let x = c .before .before .before .before .before .before .args in
     let pre = c .before .before .before .before .before .before .pre in
-    let sends = live-sends (now (x .file)) (x .t) (now (x .table)) (x .z) (now (x .rows)) (now (x .loads)) (now (x .bounds)) (pre .0) (x .p) (x .rp) (pre .1 .0 .0) (pre .1 .0 .2) (x .q) (x .rq) (pre .1 .0 .1) (pre .1 .1) in
+    let sends = live-sends (pre .0) (pre .1 .0 .0) (pre .1 .0 .2) (pre .1 .0 .1) (pre .1 .1) in
     let h : x .n < x .rp .arity = rw (eq-eqb _ _ (c .if1 .taken)) at (pre .1 .0 .3) in
-    let same = live-arities (now (x .file)) (x .t) (now (x .table)) (x .z) (now (x .rows)) (now (x .loads)) (now (x .bounds)) (pre .0) (x .p) (x .rp) (pre .1 .0 .0) (pre .1 .0 .2) (x .q) (x .rq) (pre .1 .0 .1) (pre .1 .1) in
-    let bp = arg-below (now (x .file)) (x .t) (now (x .table)) (x .z) (now (x .rows)) (now (x .loads)) (now (x .bounds)) (pre .0) (x .p) (x .rp) (pre .1 .0 .0) (omega arith) (x .n) h in
-    let bq = arg-below (now (x .file)) (x .t) (now (x .table)) (x .z) (now (x .rows)) (now (x .loads)) (now (x .bounds)) (pre .0) (x .q) (x .rq) (pre .1 .0 .1) (omega arith) (x .n) (omega arith) in
-    (omega (arith, small-arity (now (x .file)) (x .t) (now (x .table)) (x .z) (now (x .rows)) (now (x .loads)) (now (x .bounds)) (pre .0) (x .p) (x .rp) (pre .1 .0 .0)), row-fits (now (x .file)) (x .t) (now (x .table)) (x .z) (now (x .rows)) (now (x .loads)) (now (x .bounds)) (pre .0) _ bp, row-fits (now (x .file)) (x .t) (now (x .table)) (x .z) (now (x .rows)) (now (x .loads)) (now (x .bounds)) (pre .0) _ bq)
+    let same = live-arities (pre .0) (pre .1 .0 .0) (pre .1 .0 .2) (pre .1 .0 .1) (pre .1 .1) in
+    let bp = arg-below (pre .0) (pre .1 .0 .0) (omega arith) (x .n) h in
+    let bq = arg-below (pre .0) (pre .1 .0 .1) (omega arith) (x .n) (omega arith) in
+    (omega (arith, small-arity (pre .0) (pre .1 .0 .0)), row-fits (pre .0) _ bp, row-fits (pre .0) _ bq)
 
 returns : tie.Need-returns
 returns c =
     let x = c .before .before .before .before .before .before .before .args in
     let pre = c .before .before .before .before .before .before .before .pre in
-    let h : x .n < x .rp .arity = rw (eq-eqb _ _ (c .before .if1 .taken)) at (pre .1 .0 .3) in
-    c .argument-holds .ensures ∙ argument-is (now (x .file)) (x .t) (now (x .table)) (x .z) (now (x .rows)) (now (x .loads)) (now (x .bounds)) (pre .0) (x .p) (x .rp) (pre .1 .0 .0) (pre .1 .0 .2) (x .q) (x .rq) (pre .1 .0 .1) (pre .1 .1) (x .n) h ∙ rw (eq-eqb _ _ (c .before .if1 .taken))
+    let three = eq-eqb _ _ (c .before .if1 .taken) in
+    let h : x .n < x .rp .arity = rw three at (pre .1 .0 .3) in
+    c .argument-holds .ensures ∙ argument-is (pre .0) (pre .1 .0 .0) (pre .1 .0 .2) (pre .1 .0 .1) (pre .1 .1) (x .n) h ∙ rw three
 
 balance-holds-requires : tie.Need-balance-holds-requires
 balance-holds-requires c κs =
     let x = c .before .before .before .before .before .before .args in
     let pre = c .before .before .before .before .before .before .pre in
-    let sends = live-sends (now (x .file)) (x .t) (now (x .table)) (x .z) (now (x .rows)) (now (x .loads)) (now (x .bounds)) (pre .0) (x .p) (x .rp) (pre .1 .0 .0) (pre .1 .0 .2) (x .q) (x .rq) (pre .1 .0 .1) (pre .1 .1) in
+    let sends = live-sends (pre .0) (pre .1 .0 .0) (pre .1 .0 .2) (pre .1 .0 .1) (pre .1 .1) in
     let h : x .n < x .z .balances = rw (ne-eqb _ _ (c .if1 .left)) at (pre .1 .0 .3) in
     let few = pre .0 .array .formed .fewNodes in
-    let lp = left-below (now (x .file)) (x .t) (now (x .table)) (x .z) (now (x .rows)) (now (x .loads)) (now (x .bounds)) (pre .0) (x .p) (x .rp) (pre .1 .0 .0) (omega arith) in
-    let lq = left-below (now (x .file)) (x .t) (now (x .table)) (x .z) (now (x .rows)) (now (x .loads)) (now (x .bounds)) (pre .0) (x .q) (x .rq) (pre .1 .0 .1) (omega arith) in
-    (omega (arith, pre .0 .table .laid .fewBalances), omega (arith, pre .1 .0 .0 .below), omega (arith, pre .1 .0 .1 .below), omega arith, omega arith, pre .0 .manyLoads)
+    let lp = left-below (pre .0) (pre .1 .0 .0) (omega arith) in
+    let lq = left-below (pre .0) (pre .1 .0 .1) (omega arith) in
+    let laid = pre .0 .table .laid in
+    let read = pre .1 .0 in
+    (omega (arith, laid .fewBalances), omega (arith, read .0 .below), omega (arith, read .1 .below), omega arith, omega arith, pre .0 .manyLoads)
 
 returns-2 : tie.Need-returns-2
 returns-2 c =
     let x = c .before .before .before .before .before .before .before .args in
     let pre = c .before .before .before .before .before .before .before .pre in
-    let h : x .n < x .z .balances = rw (ne-eqb _ _ (c .before .if1 .left)) at (pre .1 .0 .3) in
-    c .balance-holds .ensures ∙ balance-is (now (x .file)) (x .t) (now (x .table)) (x .z) (now (x .rows)) (now (x .loads)) (now (x .bounds)) (pre .0) (x .p) (x .rp) (pre .1 .0 .0) (pre .1 .0 .2) (x .q) (x .rq) (pre .1 .0 .1) (pre .1 .1) (x .n) h ∙ rw (ne-eqb _ _ (c .before .if1 .left))
+    let other = ne-eqb _ _ (c .before .if1 .left) in
+    let h : x .n < x .z .balances = rw other at (pre .1 .0 .3) in
+    c .balance-holds .ensures ∙ balance-is (pre .0) (pre .1 .0 .0) (pre .1 .0 .2) (pre .1 .0 .1) (pre .1 .1) (x .n) h ∙ rw other
 
 pub figure-holds-spec : {M : Type 1} → statement M
 figure-holds-spec =

@@ -1,23 +1,16 @@
 -- The loop's flag says that the balances passed bear both weights.
-use Prim.Native.Nat.{ℕ, _+_, _*_, _≤_, _-_}
-use mathlib.Core.Path.{_≡_, refl, sym, ap, _∙_}
-use mathlib.Core.List.{List}
-use mathlib.Core.Bool.{Bool}
-use lib.Dec.{leb}
-use lib.ListN.{getD}
+use Prim.Native.Nat.{_*_, _≤_, _-_}
+use mathlib.Core.Path.{_≡_, refl, sym}
 use Rattle.laws.specs.Search.{every}
+use Rattle.pairs.specs.Pairs.{bearsBoth}
 use Rattle.laws.proofs.Search.{every-zero, every-step}
 use native.Mathlib.Omega.{arith}
 use borrow.Author.Needs.{needs}
 use Rattle.pairs.proofs.fit_both.Statement.{statement}
 use Rattle.pairs.proofs.fit_both.Tie as tie
 
--- balance k bears the weights of nodes p and q
-abbrev bears : List ℕ → List ℕ → ℕ → ℕ → ℕ → Bool
-bears loads bounds p q k = leb (getD loads (24 * p + k) 0 + getD loads (24 * q + k) 0) (getD bounds k 0)
-
 abbrev Inv-loop : tie.InvT-loop
-Inv-loop z loads bounds p q at to fits₀ k₀ fits k = (k ≤ z .balances) × (at ≡ 24 * p) × (to ≡ 24 * q) × (fits ≡ every k (bears loads bounds p q))
+Inv-loop z loads bounds p q at to fits₀ k₀ fits k = (k ≤ z .balances) × (at ≡ 24 * p) × (to ≡ 24 * q) × (fits ≡ every k (bearsBoth loads bounds p q))
 
 abbrev μ-loop : tie.MeasureT-loop
 μ-loop z loads bounds p q at to fits₀ k₀ fits k = z .balances - k
@@ -77,11 +70,14 @@ loop-less c = search needs
 loop-again : tie.Need-loop-again Inv-loop μ-loop
 loop-again c =
     let l = c .before .before .before .before .before .before .before .before .loop in
-    let x = c .before .before .before .before .before .before .before .before .before .before .before .args in (
+    let x = c .before .before .before .before .before .before .before .before .before .before .before .args in
+    let receiver = c .before .before .before .before .wide .ensures .0 in
+    let sender = c .before .before .wide2 .ensures .0 in (
       search needs,
       l .inv .1,
       l .inv .2,
-      rw (l .inv .3, c .before .before .before .before .wide .ensures .0, c .before .before .wide2 .ensures .0, c .wide3 .ensures .0, l .inv .1, l .inv .2) (sym (every-step (bears (x .loads .now) (x .bounds .now) (x .p) (x .q)) (l .k))),
+      rw (l .inv .3, receiver, sender, c .wide3 .ensures .0, l .inv .1, l .inv .2)
+          (sym (every-step (bearsBoth (x .loads .now) (x .bounds .now) (x .p) (x .q)) (l .k))),
     )
 
 returns : tie.Need-returns Inv-loop μ-loop

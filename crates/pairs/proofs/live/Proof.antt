@@ -1,65 +1,48 @@
 -- The tests of a live pair, one after another, by the records and the checker's lists.
-use Prim.Native.Nat.{_<_}
-use mathlib.Core.Path.{_≡_, sym, ap, _∙_}
-use denote.Ref.{now}
+use mathlib.Core.Path.{sym, _∙_}
 use borrow.Author.Tests.{not-true, not-false}
-use Rattle.pairs.proofs.Laws.{live-else, live-arity, live-unshared, live-fits, name-below, row-fits}
+use Rattle.pairs.proofs.Laws.{live-else, live-arity, live-unshared, live-fits, name-row}
 use native.Mathlib.Omega.{arith}
-use borrow.Author.Needs.{needs}
 use Rattle.pairs.proofs.live.Statement.{statement}
 use Rattle.pairs.proofs.live.Tie as tie
 
 returns : tie.Need-returns
 returns c =
-    let x = c .before .before .before .before .before .before .before .args in
     let pre = c .before .before .before .before .before .before .before .pre in
-    sym (live-else (now (x .file)) (x .t) (now (x .table)) (x .z) (now (x .rows)) (now (x .loads)) (now (x .bounds)) (pre .0) (x .p) (x .rp) (pre .1 .0) (pre .1 .2) (x .q) (x .rq) (pre .1 .1) (c .if1 .taken))
+    sym (live-else (pre .0) (pre .1 .0) (pre .1 .2) (pre .1 .1) (c .if1 .taken))
 
 returns-2 : tie.Need-returns-2
 returns-2 c =
-    let x = c .before .before .before .before .before .before .before .before .before .before .args in
     let pre = c .before .before .before .before .before .before .before .before .before .before .pre in
-    sym (live-arity (now (x .file)) (x .t) (now (x .table)) (x .z) (now (x .rows)) (now (x .loads)) (now (x .bounds)) (pre .0) (x .p) (x .rp) (pre .1 .0) (pre .1 .2) (x .q) (x .rq) (pre .1 .1) (c .before .before .before .if1 .left) (c .if2 .taken))
+    sym (live-arity (pre .0) (pre .1 .0) (pre .1 .2) (pre .1 .1) (c .before .before .before .if1 .left) (c .if2 .taken))
 
 mul-shares : tie.Need-mul-shares
 mul-shares c =
-    let x = c .before .before .before .before .before .before .before .before .before .before .before .args in
     let pre = c .before .before .before .before .before .before .before .before .before .before .before .pre in
-    let np = name-below (now (x .file)) (x .t) (now (x .table)) (x .z) (now (x .rows)) (now (x .loads)) (now (x .bounds)) (pre .0) (x .p) (x .rp) (pre .1 .0) (omega arith) in
-    let nq = name-below (now (x .file)) (x .t) (now (x .table)) (x .z) (now (x .rows)) (now (x .loads)) (now (x .bounds)) (pre .0) (x .q) (x .rq) (pre .1 .1) (omega arith) in
-    let fp = row-fits (now (x .file)) (x .t) (now (x .table)) (x .z) (now (x .rows)) (now (x .loads)) (now (x .bounds)) (pre .0) (x .rp .name) np in
-    let fq = row-fits (now (x .file)) (x .t) (now (x .table)) (x .z) (now (x .rows)) (now (x .loads)) (now (x .bounds)) (pre .0) (x .rq .name) nq in
+    let fp = name-row (pre .0) (pre .1 .0) (omega arith) in
     record { fits = omega arith }
 
 mul-shares-2 : tie.Need-mul-shares-2
 mul-shares-2 c =
-    let x = c .before .before .before .before .before .before .before .before .before .before .before .before .args in
     let pre = c .before .before .before .before .before .before .before .before .before .before .before .before .pre in
-    let np = name-below (now (x .file)) (x .t) (now (x .table)) (x .z) (now (x .rows)) (now (x .loads)) (now (x .bounds)) (pre .0) (x .p) (x .rp) (pre .1 .0) (omega arith) in
-    let nq = name-below (now (x .file)) (x .t) (now (x .table)) (x .z) (now (x .rows)) (now (x .loads)) (now (x .bounds)) (pre .0) (x .q) (x .rq) (pre .1 .1) (omega arith) in
-    let fp = row-fits (now (x .file)) (x .t) (now (x .table)) (x .z) (now (x .rows)) (now (x .loads)) (now (x .bounds)) (pre .0) (x .rp .name) np in
-    let fq = row-fits (now (x .file)) (x .t) (now (x .table)) (x .z) (now (x .rows)) (now (x .loads)) (now (x .bounds)) (pre .0) (x .rq .name) nq in
+    let fq = name-row (pre .0) (pre .1 .1) (omega arith) in
     record { fits = omega arith }
 
 shares-requires : tie.Need-shares-requires
 shares-requires c κs =
-    let x = c .before .before .before .before .before .before .before .before .before .before .before .before .args in
     let pre = c .before .before .before .before .before .before .before .before .before .before .before .before .pre in
-    let np = name-below (now (x .file)) (x .t) (now (x .table)) (x .z) (now (x .rows)) (now (x .loads)) (now (x .bounds)) (pre .0) (x .p) (x .rp) (pre .1 .0) (omega arith) in
-    let nq = name-below (now (x .file)) (x .t) (now (x .table)) (x .z) (now (x .rows)) (now (x .loads)) (now (x .bounds)) (pre .0) (x .q) (x .rq) (pre .1 .1) (omega arith) in
-    let fp = row-fits (now (x .file)) (x .t) (now (x .table)) (x .z) (now (x .rows)) (now (x .loads)) (now (x .bounds)) (pre .0) (x .rp .name) np in
-    let fq = row-fits (now (x .file)) (x .t) (now (x .table)) (x .z) (now (x .rows)) (now (x .loads)) (now (x .bounds)) (pre .0) (x .rq .name) nq in
-    (fp, fq)
+    (name-row (pre .0) (pre .1 .0) (omega arith), name-row (pre .0) (pre .1 .1) (omega arith))
 
 returns-3 : tie.Need-returns-3
 returns-3 c =
-    let x = c .before .before .before .before .before .before .before .before .before .before .before .before .before .before .args in
     let pre = c .before .before .before .before .before .before .before .before .before .before .before .before .before .before .pre in
-    sym (live-unshared (now (x .file)) (x .t) (now (x .table)) (x .z) (now (x .rows)) (now (x .loads)) (now (x .bounds)) (pre .0) (x .p) (x .rp) (pre .1 .0) (pre .1 .2) (x .q) (x .rq) (pre .1 .1) (c .before .before .before .before .before .before .before .if1 .left) (c .before .before .before .before .if2 .left) (sym (c .before .shares .ensures) ∙ not-true _ (c .if3 .taken)))
+    let sends = c .before .before .before .before .before .before .before .if1 .left in
+    let same = c .before .before .before .before .if2 .left in
+    let unshared = sym (c .before .shares .ensures) ∙ not-true _ (c .if3 .taken) in
+    sym (live-unshared (pre .0) (pre .1 .0) (pre .1 .2) (pre .1 .1) sends same unshared)
 
 fit-both-requires : tie.Need-fit-both-requires
 fit-both-requires c κs =
-    let x = c .before .before .before .before .before .before .before .before .before .before .before .before .before .before .args in
     let pre = c .before .before .before .before .before .before .before .before .before .before .before .before .before .before .pre in
     let laid = pre .0 .table .laid in (
       laid .fewBalances,
@@ -71,10 +54,11 @@ fit-both-requires c κs =
 
 returns-4 : tie.Need-returns-4
 returns-4 c =
-    let x = c .before .before .before .before .before .before .before .before .before .before .before .before .before .before .before .args in
     let pre = c .before .before .before .before .before .before .before .before .before .before .before .before .before .before .before .pre in
-    c .fit-both .ensures
-    ∙ sym (live-fits (now (x .file)) (x .t) (now (x .table)) (x .z) (now (x .rows)) (now (x .loads)) (now (x .bounds)) (pre .0) (x .p) (x .rp) (pre .1 .0) (pre .1 .2) (x .q) (x .rq) (pre .1 .1) (c .before .before .before .before .before .before .before .before .if1 .left) (c .before .before .before .before .before .if2 .left) (sym (c .before .before .shares .ensures) ∙ not-false _ (c .before .if3 .left)))
+    let sends = c .before .before .before .before .before .before .before .before .if1 .left in
+    let same = c .before .before .before .before .before .if2 .left in
+    let shared = sym (c .before .before .shares .ensures) ∙ not-false _ (c .before .if3 .left) in
+    c .fit-both .ensures ∙ sym (live-fits (pre .0) (pre .1 .0) (pre .1 .2) (pre .1 .1) sends same shared)
 
 pub live-spec : {M : Type 1} → statement M
 live-spec =

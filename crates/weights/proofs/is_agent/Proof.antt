@@ -1,7 +1,7 @@
 -- Past M there is no node; below M the record's kind says whether the node is an agent.
 use native.Mathlib.Omega.{arith}
 use borrow.Author.Needs.{needs}
-use Rattle.weights.proofs.Laws.{agent-below, agent-past}
+use Rattle.records.proofs.Laws.{agent-below, agent-past}
 use Rattle.weights.proofs.is_agent.Statement.{statement}
 use Rattle.weights.proofs.is_agent.Tie as tie
 

@@ -1,0 +1,96 @@
+-- From the parts to the whole promise: what the readers and the rules found is the definition's answer, and held carries demand 3.
+use Prim.Native.Nat.{ℕ, _+_, _<_}
+use native.Mathlib.Omega.{arith}
+use mathlib.Core.Path.{_≡_, refl, sym, ap, _∙_, subst}
+use mathlib.Core.Bool.{_&&_}
+use mathlib.Core.List.{List}
+use lib.Dec.{eqb, ltb}
+use borrow.Author.Tests.{ltb-true}
+use Rattle.laws.specs.Search.{clear, hit, andThen}
+use Rattle.laws.proofs.Search.{and-split, test-clear, first-clear, andThen-join, clear-andThen, hit-andThen}
+use Rattle.wire.specs.Numbers.{u16At}
+use Rattle.model.specs.Tree.{nodeAt, isAgent}
+use Rattle.model.specs.Rules.{ClaimsFit, verdict}
+use Rattle.model.proofs.Safety.{demand3}
+use Rattle.records.specs.declared.Refusal.{Refusal}
+use Rattle.records.specs.declared.Trailer.{Trailer}
+use Rattle.records.specs.Record.{arrayOf}
+use Rattle.arrays.specs.declared.ArrayAnswer.the-variants as A
+use Rattle.arrays.specs.File.{trailerOf, arrayRefusal, readArray, IsRead}
+use Rattle.arrays.proofs.Laws.{read-passes, read-refuses, read-is}
+use Rattle.layout.specs.declared.Sizes.{Sizes}
+use Rattle.layout.specs.Table.{claimAt, sizesOf, tableOf, refusal21, IsTable}
+use Rattle.tables.specs.Read.{tableRefusal, filesRefusal}
+use Rattle.tables.proofs.Laws.{passed-table}
+use Rattle.rules.specs.declared.Ruling.{Ruling}
+use Rattle.rules.specs.declared.Ruling.the-variants as R
+use Rattle.rules.specs.Ruling.{ruled}
+use Rattle.handover.specs.declared.Verdict.{Verdict}
+use Rattle.handover.specs.declared.Verdict.the-variants.{Held, Refused}
+use Rattle.handover.specs.Front.{Said, held, says, arrayIn, sizesIn, tableIn, afterRules, judged, Demand3, Judges, verdictOf}
+
+-- what refusal 21 leaves of the claims: each names a balance of the table
+claims-fit : (f : List ℕ) (t : Trailer) (s : List ℕ) (z : Sizes) → IsTable f t s z → ClaimsFit (tableOf s z)
+unfolding refusal21
+claims-fit f t s z table c h =
+    let at = claimAt z c in
+    let fits = test-clear _ _ (first-clear (z .claims) _ (table .claims) c h) in
+    let named = and-split (isAgent (nodeAt (arrayOf f t) (u16At s at)) && ltb (u16At s (at + 4)) (z .balances)) (eqb (u16At s (at + 6)) 0) fits .0 in
+    ltb-true _ _ (and-split (isAgent (nodeAt (arrayOf f t) (u16At s at))) (ltb (u16At s (at + 4)) (z .balances)) named .1)
+
+module _ (f s : List ℕ) where
+  pub refused-judges : (r : Refusal) → filesRefusal f s ≡ hit record { number = r .number; place = r .place } → Judges f s (Refused r)
+  unfolding judged
+  refused-judges r e = record { answers = sym (rw e); holds = λ m n k q h. absurd (nothing m n k q h) }
+    where
+      nothing : (m n k q : ℕ) → says (Refused r) ≡ held m n k q → ⊥
+      nothing m n k q h = let z : _≡_ {A = ℕ} 0 1 = cc in omega arith
+
+  module _ (clear′ : filesRefusal f s ≡ clear) (read : IsRead f (trailerOf f)) (table : IsTable f (trailerOf f) s (sizesIn f s)) where
+    abbrev sized : Said
+    sized = let z = sizesIn f s in held (z .nodes) (z .names) (z .balances) (z .claims)
+
+    ruled-says : (x : Ruling) → afterRules (ruled x) sized ≡ says (verdictOf x (sizesIn f s))
+    ruled-says R.Held = refl
+    ruled-says (R.Rule1 o) = refl
+    ruled-says (R.Rule2 k) = refl
+    ruled-says (R.Rule3 p q n) = refl
+    ruled-says (R.Rule4 p q k) = refl
+    ruled-says (R.Rule5 c) = refl
+
+    -- only a ruling that is held says so
+    held-ruled : (x : Ruling) (m n k q : ℕ) → says (verdictOf x (sizesIn f s)) ≡ held m n k q → ruled x ≡ clear
+    held-ruled R.Held m n k q e = refl
+    held-ruled (R.Rule1 o) m n k q e = cc
+    held-ruled (R.Rule2 o) m n k q e = cc
+    held-ruled (R.Rule3 a b c) m n k q e = cc
+    held-ruled (R.Rule4 a b c) m n k q e = cc
+    held-ruled (R.Rule5 o) m n k q e = cc
+
+    pub ruled-judges : (x : Ruling) → ruled x ≡ verdict (arrayIn f) (tableIn f s) → Judges f s (verdictOf x (sizesIn f s))
+    unfolding judged
+    ruled-judges x e = record {
+      answers = sym (rw (clear′, ← e) (ruled-says x));
+      holds = λ m n k q h.
+          demand3 (arrayIn f) (tableIn f s) (read .formed) (claims-fit f (trailerOf f) s (sizesIn f s) table) (sym e ∙ held-ruled x m n k q h);
+    }
+
+  -- the same by what the calls answered: trailer t, sizes z, ruling x
+  pub passed-judges : (t : Trailer) (z : Sizes) (x : Ruling) → readArray f ≡ A.Read t → tableRefusal f t s ≡ clear → z ≡ sizesOf t s
+      → ruled x ≡ verdict (arrayOf f t) (tableOf s z) → Judges f s (verdictOf x z)
+  passed-judges t z x e none size found =
+      let p = read-passes f t e in
+      let none′ : tableRefusal f (trailerOf f) s ≡ clear = subst (λ u. tableRefusal f u s ≡ clear) (sym (p .1)) none in
+      let size′ : z ≡ sizesIn f s = size ∙ ap (λ u. sizesOf u s) (sym (p .1)) in
+      let found′ : ruled x ≡ verdict (arrayIn f) (tableIn f s) =
+      found ∙ ap (λ u. verdict (arrayOf f u) (tableOf s z)) (sym (p .1)) ∙ ap (λ u. verdict (arrayIn f) (tableOf s u)) size′ in
+      subst (λ u. Judges f s (verdictOf x u)) (sym size′)
+      (ruled-judges (andThen-join (arrayRefusal f) _ (p .0) none′) (subst (IsRead f) (sym (p .1)) (read-is f t e)) (passed-table f (trailerOf f) s none′) x found′)
+
+  pub array-refused : (r : Refusal) → readArray f ≡ A.Refused r → Judges f s (Refused r)
+  array-refused r e = refused-judges r (hit-andThen (arrayRefusal f) _ _ (read-refuses f r e))
+
+  pub table-refused : (t : Trailer) (r : Refusal) → readArray f ≡ A.Read t → hit record { number = r .number; place = r .place } ≡ tableRefusal f t s → Judges f s (Refused r)
+  table-refused t r e found =
+      let p = read-passes f t e in
+      refused-judges r (clear-andThen (arrayRefusal f) (tableRefusal f (trailerOf f) s) (p .0) ∙ ap (λ u. tableRefusal f u s) (p .1) ∙ sym found)

@@ -1,0 +1,99 @@
+-- By the array's answer, the table's, then the rules'.
+use mathlib.Core.Path.{_≡_, refl, sym, ap, _∙_, subst}
+use denote.Ref.{now}
+use Rattle.arrays.specs.declared.ArrayAnswer.the-variants as A
+use Rattle.arrays.specs.File.{readArray}
+use Rattle.arrays.proofs.Laws.{read-is}
+use Rattle.laws.proofs.Search.{test-clear, andThen-split}
+use Rattle.layout.specs.Table.{lengthFits, IsTable, Laid}
+use Rattle.records.specs.Record.{foundOf}
+use Rattle.records.proofs.Checks.{passes}
+use Rattle.tables.proofs.Laws.{length-fits, passed-table}
+use Rattle.handover.specs.Front.{Judges}
+use Rattle.handover.proofs.Laws.{array-refused, table-refused, passed-judges}
+use native.Mathlib.Omega.{arith}
+use borrow.Author.Needs.{needs}
+use Rattle.handover.proofs.check.Statement.{statement}
+use Rattle.handover.proofs.check.Tie as tie
+
+read-array-requires : tie.Need-read-array-requires
+read-array-requires c κs = search needs
+
+enum-known-r : tie.Need-enum-known-r
+enum-known-r c = search needs
+
+enum-known-t : tie.Need-enum-known-t
+enum-known-t c = search needs
+
+check-table-requires : tie.Need-check-table-requires
+check-table-requires c κs =
+    let f = now (c .before .before .before .before .before .before .args .array) in
+    let s = now (c .before .before .before .before .before .before .args .table) in
+    let t = c .before .t .given .0 .0 in
+    let e : readArray f ≡ A.Read t = sym (c .before .before .before .read-array .ensures) ∙ c .before .t .given .1 in
+    let r = read-is f t e in
+    (omega (arith, r .fills), r .start, r .formed .fewNodes, r .formed .fewNames)
+
+enum-known-r-2 : tie.Need-enum-known-r-2
+enum-known-r-2 c = search needs
+
+enum-told : tie.Need-enum-told
+enum-told c = search needs
+
+read-sizes-requires : tie.Need-read-sizes-requires
+read-sizes-requires c κs =
+    let f = now (c .before .before .before .before .before .before .before .before .before .args .array) in
+    let s = now (c .before .before .before .before .before .before .before .before .before .args .table) in
+    let t = c .before .before .before .before .t .given .0 .0 in
+    let e : readArray f ≡ A.Read t = sym (c .before .before .before .before .before .before .read-array .ensures) ∙ c .before .before .before .before .t .given .1 in
+    length-fits s (test-clear (lengthFits s) _ (andThen-split _ _ (passes (c .before .before .check-table .result) (c .before .before .check-table .ensures) (c .enum-told .given .1)) .0))
+
+judge-requires : tie.Need-judge-requires
+judge-requires c κs =
+    let f = now (c .before .before .before .before .before .before .before .before .before .before .args .array) in
+    let s = now (c .before .before .before .before .before .before .before .before .before .before .args .table) in
+    let t = c .before .before .before .before .before .t .given .0 .0 in
+    let e : readArray f ≡ A.Read t = sym (c .before .before .before .before .before .before .before .read-array .ensures) ∙ c .before .before .before .before .before .t .given .1 in
+    (read-is f t e, subst (IsTable f t s) (sym (c .read-sizes .ensures)) (passed-table f t s (passes (c .before .before .before .check-table .result) (c .before .before .before .check-table .ensures) (c .before .enum-told .given .1))))
+
+verdict-of-requires : tie.Need-verdict-of-requires
+verdict-of-requires c κs = search needs
+
+returns : tie.Need-returns
+returns c =
+    let f = now (c .before .before .before .before .before .before .args .array) in
+    let s = now (c .before .before .before .before .before .before .args .table) in
+    array-refused f s (c .before .r .given .0 .0) (sym (c .before .before .before .read-array .ensures) ∙ c .before .r .given .1)
+
+returns-2 : tie.Need-returns-2
+returns-2 c =
+    let f = now (c .before .before .before .before .before .before .before .before .before .before .args .array) in
+    let s = now (c .before .before .before .before .before .before .before .before .before .before .args .table) in
+    let t = c .before .before .before .before .before .t .given .0 .0 in
+    let e : readArray f ≡ A.Read t = sym (c .before .before .before .before .before .before .before .read-array .ensures) ∙ c .before .before .before .before .before .t .given .1 in
+    table-refused f s t (c .before .r2 .given .0 .0) e (ap foundOf (sym (c .before .r2 .given .1)) ∙ c .before .before .before .check-table .ensures)
+
+returns-3 : tie.Need-returns-3
+returns-3 c =
+    let f = now (c .before .before .before .before .before .before .before .before .before .before .before .before .args .array) in
+    let s = now (c .before .before .before .before .before .before .before .before .before .before .before .before .args .table) in
+    let t = c .before .before .before .before .before .before .before .t .given .0 .0 in
+    let e : readArray f ≡ A.Read t = sym (c .before .before .before .before .before .before .before .before .before .read-array .ensures) ∙ c .before .before .before .before .before .before .before .t .given .1 in
+    subst (Judges f s) (sym (c .verdict-of .ensures)) (passed-judges f s t (c .before .before .read-sizes .result) (c .before .judge .result) e (passes (c .before .before .before .before .before .check-table .result) (c .before .before .before .before .before .check-table .ensures) (c .before .before .before .enum-told .given .1)) (c .before .before .read-sizes .ensures) (c .before .judge .ensures))
+
+pub check-spec : {M : Type 1} → statement M
+check-spec =
+    tie.close
+    (tie.spec
+    read-array-requires
+    enum-known-r
+    enum-known-t
+    check-table-requires
+    enum-known-r-2
+    enum-told
+    read-sizes-requires
+    judge-requires
+    verdict-of-requires
+    returns
+    returns-2
+    returns-3)

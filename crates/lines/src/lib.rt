@@ -1,0 +1,67 @@
+// The line that a verdict is printed as: one place for every program that prints verdicts.
+// Promises nothing beyond safety: what is written to a file descriptor no contract can say; the programs' stored output tests it.
+// Depends on handover, layout and records (the verdict), io and libc.
+ghost use Prim.Native.Nat.{_≤_};
+ghost use lib.ListN.{length};
+use handover::Verdict;
+use layout::Sizes;
+use libc::STDOUT_FILENO;
+use records::Refusal;
+
+fn print_figure(n: usize) {
+    io::write_all(STDOUT_FILENO, b" ");
+    io::print_decimal(STDOUT_FILENO, n as u64);
+}
+
+fn print_held(z: Sizes) {
+    io::write_all(STDOUT_FILENO, b"held");
+    print_figure(z.nodes);
+    print_figure(z.names);
+    print_figure(z.balances);
+    print_figure(z.claims);
+}
+
+fn print_rule(number: usize, figure: usize) {
+    io::write_all(STDOUT_FILENO, b"rule");
+    print_figure(number);
+    print_figure(figure);
+}
+
+fn print_pair(number: usize, p: usize, q: usize, figure: usize) {
+    print_rule(number, p);
+    print_figure(q);
+    print_figure(figure);
+}
+
+fn print_refusal(r: Refusal) {
+    io::write_all(STDOUT_FILENO, b"refused");
+    print_figure(r.number as usize);
+    print_figure(r.place);
+}
+
+// `held`, M, N, K, Q; or `rule`, its number and place figures; or `refused`, number, place.
+pub fn print_verdict(v: Verdict) {
+    match v {
+        Verdict::Held(z) => print_held(z),
+        Verdict::Rule1(o) => print_rule(1, o),
+        Verdict::Rule2(k) => print_rule(2, k),
+        Verdict::Rule3(p, q, n) => print_pair(3, p, q, n),
+        Verdict::Rule4(p, q, k) => print_pair(4, p, q, k),
+        Verdict::Rule5(c) => print_rule(5, c),
+        Verdict::Refused(r) => print_refusal(r),
+    }
+    io::write_all(STDOUT_FILENO, b"\n");
+}
+
+// Reads the file at a path into a buffer and answers how much came; a file that can't be opened counts as empty.
+pub fn read_file(path: &[u8], buffer: &mut [u8]) -> usize
+    ensures { λ n. ⌜ n ≤ length (now (buffer .exit)) ⌝ }
+{
+    let fd = os::open_read(path);
+    if fd < 0 {
+        return 0;
+    }
+    let n = io::read_full(fd, buffer);
+    libc::close(fd);
+    n
+}

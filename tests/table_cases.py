@@ -1,0 +1,171 @@
+#!/usr/bin/env python3
+"""Writes crates/cases/{data,args,stdout} and crates/judge/{data,stdout}: pairs of array and table files and what the checker must say.
+
+Each answer is written here by hand from document 01: a case is an array, a table's name, the table and the words of the verdict. Run it at
+the top of the repository after a change; the gate compares what the programs print.
+"""
+import os
+import shutil
+import struct
+
+from array_cases import A, B, C, IN, NEW, OUT, PAR, RESOURCE, STOP, BIG, pis, rec, word_sum
+
+
+def row(*bits, width=32):
+    data = bytearray(width)
+    for bit in bits:
+        data[bit // 8] |= 1 << bit % 8
+    return bytes(data)
+
+
+def balance(bound, weights, nodes, pad=0):
+    """Weights by node number."""
+    words = [weights.get(i, 0) for i in range(nodes)] + ([pad] if nodes % 2 else [])
+    return struct.pack("<I", bound) + struct.pack(f"<{len(words)}H", *words)
+
+
+def claim(agent, most, number=0, last=0):
+    return struct.pack("<HHHH", agent, most, number, last)
+
+
+def pic(array, rows, balances=(), claims=(), starts=None, counts=None, named=None, total=None, letters=b"PIC1"):
+    parts = [b"".join(rows), b"".join(balances), b"".join(claims)]
+    places = (0, len(parts[0]), len(parts[0]) + len(parts[1])) if starts is None else starts
+    head = b"".join(parts) + struct.pack("<III", *places)
+    head += struct.pack("<HH", *((len(balances), len(claims)) if counts is None else counts))
+    head += array[-8:-4] if named is None else struct.pack("<I", named)
+    return head + struct.pack("<I", word_sum(head) if total is None else total) + letters
+
+
+FILES = {"A": pis(A, 3), "B": pis(B, 1), "C": pis(C, 1), "stop": pis([rec(STOP)], 0), "broken": pis(A, 4)}
+a, b, c = FILES["A"], FILES["B"], FILES["C"]
+rows = [row(0), row(1), row(1)]
+one = {5: 1, 6: 1}
+bal = balance(1, one, 8)
+table = pic(a, rows, [bal], [claim(6, 1)])
+
+# A pair that is live twice, so that the lowest receiver and sender count: two receivers and two senders on one channel.
+TWO = [rec(NEW, 1, name=0), rec(NEW, 2, name=1), rec(PAR, 3, 4), rec(PAR, 5, 6), rec(PAR, 7, 8), rec(OUT, 9, name=0, args=[1]),
+       rec(OUT, 10, name=0, args=[1]), rec(IN, 11, name=0, args=[2]), rec(RESOURCE, 12, name=0, args=[3]), rec(STOP), rec(STOP),
+       rec(STOP), rec(STOP)]
+FILES["two"] = pis(TWO, 4)
+two = FILES["two"]
+# A channel of arity 8 whose last argument is the one that is not contained.
+WIDE = [rec(NEW, 1, name=0), rec(NEW, 2, name=1), rec(PAR, 3, 4), rec(OUT, 5, name=0, args=[0] * 7 + [1]),
+        rec(IN, 6, name=0, args=range(2, 10)), rec(STOP), rec(STOP)]
+FILES["wide"] = pis(WIDE, 10)
+wide = FILES["wide"]
+FILES["largest"] = pis(BIG, 256)
+
+CASES = [
+    # the marked cases, from outside
+    ("A", "A", table, "held 8 3 1 1"),
+    ("A", "A-most-0", pic(a, rows, [bal], [claim(6, 0)]), "rule 5 0"),
+    ("A", "A-bound-0", pic(a, rows, [balance(0, one, 8)], [claim(6, 1)]), "rule 2 0"),
+    ("A", "A-row-2-empty", pic(a, [row(0), row(1), row()], [bal], [claim(6, 1)]), "rule 3 5 3 1"),
+    ("A", "A-row-1-empty", pic(a, [row(0), row(), row(1)], [bal], [claim(6, 1)]), "rule 1 1"),
+    ("A", "A-w6-2", pic(a, rows, [balance(1, {5: 1, 6: 2}, 8)], [claim(6, 1)]), "rule 4 5 3 0"),
+    ("B", "B", pic(b, [row(0)], [balance(1, {2: 1, 5: 1}, 7)]), "held 7 1 1 0"),
+    ("B", "B-w5", pic(b, [row(0)], [balance(1, {5: 1}, 7)]), "rule 4 4 2 0"),
+    ("C", "C", pic(c, [row(0)], [balance(1, {2: 1, 4: 1}, 6)]), "held 6 1 1 0"),
+    # nothing to say: no balances, no claims, no rows
+    ("stop", "stop", pic(FILES["stop"], []), "held 1 0 0 0"),
+    ("A", "A-flows", pic(a, rows), "held 8 3 0 0"),
+    # more of the rules
+    ("A", "A-rule-1-lowest", pic(a, [row(), row(), row(1)], [bal]), "rule 1 0"),
+    ("A", "A-second-bound", pic(a, rows, [bal, balance(0, {5: 1}, 8)]), "rule 2 1"),
+    ("A", "A-second-balance", pic(a, rows, [bal, balance(1, {5: 1, 6: 2}, 8)]), "rule 4 5 3 1"),
+    ("A", "A-second-claim", pic(a, rows, [bal], [claim(6, 1), claim(5, 0), claim(6, 1)]), "rule 5 1"),
+    ("A", "A-weightless-claim", pic(a, rows, [bal], [claim(3, 65535)]), "rule 5 0"),
+    ("A", "A-claim-reached", pic(a, rows, [balance(2, {6: 2, 5: 2}, 8)], [claim(6, 0)]), "rule 5 0"),
+    ("A", "A-weight-65535", pic(a, rows, [balance(65535, {5: 65535, 6: 65535}, 8)], [claim(6, 1)]), "held 8 3 1 1"),
+    ("A", "A-both-agents", pic(a, [row(0), row(1), row()], [balance(1, {3: 1, 5: 1}, 8)]), "rule 2 0"),
+    ("two", "two-lowest-pair", pic(two, [row(0), row(1), row(), row()]), "rule 3 7 5 1"),
+    ("two", "two-second-receiver", pic(two, [row(0), row(1), row(1), row()]), "rule 3 8 5 1"),
+    ("two", "two-rule-3-first", pic(two, [row(0), row(1), row(1), row()], [balance(9, {7: 1}, 13)]), "rule 3 8 5 1"),
+    ("two", "two-held", pic(two, [row(0), row(1), row(1), row(1)]), "held 13 4 0 0"),
+    ("wide", "wide-last-argument", pic(wide, [row(0), row(1)] + [row(0)] * 8), "rule 3 4 3 8"),
+    ("wide", "wide-held", pic(wide, [row(0), row(1)] + [row(0, 1)] * 8), "held 7 10 0 0"),
+    # 1 to 12 come first
+    ("broken", "array-first", b"", "refused 11 3"),
+    ("missing", "array-missing", table, "refused 1 0"),
+    # 13: length
+    ("A", "missing", None, "refused 13 0"),
+    ("A", "empty", b"", "refused 13 0"),
+    ("A", "24-bytes", b"\0" * 24, "refused 13 0"),
+    ("A", "A-byte-long", b"\0" + table, "refused 13 0"),
+    ("A", "59520-bytes", b"\0" * (59520 - len(table)) + table, "refused 13 0"),
+    # 14: letters
+    ("A", "28-ones", b"\xff" * 28, "refused 14 0"),
+    ("A", "59516-ones", b"\xff" * 59516, "refused 14 0"),
+    ("A", "A-array-letters", pic(a, rows, [bal], letters=b"PIS1"), "refused 14 0"),
+    ("A", "A-next-letters", pic(a, rows, [bal], letters=b"PIC2"), "refused 14 0"),
+    # 15: K, Q
+    ("A", "A-K-25", pic(a, rows, [bal] * 25), "refused 15 0"),
+    ("A", "A-K-24", pic(a, rows, [bal] * 24), "held 8 3 24 0"),
+    ("A", "A-Q-257", pic(a, rows, [bal], [claim(6, 1)] * 257), "refused 15 0"),
+    ("A", "A-Q-256", pic(a, rows, [bal], [claim(6, 1)] * 256), "held 8 3 1 256"),
+    ("A", "A-K-65535", pic(a, rows, [bal], counts=(65535, 65535)), "refused 15 0"),
+    # 16: parts
+    ("A", "A-rows-at-4", pic(a, rows, [bal], starts=(4, 96, 116)), "refused 16 0"),
+    ("A", "A-balances-late", pic(a, rows, [bal], starts=(0, 100, 116)), "refused 16 0"),
+    ("A", "A-claims-early", pic(a, rows, [bal], starts=(0, 96, 112)), "refused 16 0"),
+    ("A", "A-claim-missing", pic(a, rows, [bal], counts=(1, 1)), "refused 16 0"),
+    ("A", "A-row-missing", pic(a, rows[:2], [bal]), "refused 16 0"),
+    ("A", "A-weight-too-many", pic(a, rows, [balance(1, one, 9)]), "refused 16 0"),
+    # 17, 18: word sums
+    ("A", "A-sum-off", pic(a, rows, [bal], total=1), "refused 17 0"),
+    ("A", "A-bit-changed", b"\3" + table[1:], "refused 17 0"),
+    ("A", "A-other-array", pic(b, rows, [bal], [claim(6, 1)]), "refused 18 0"),
+    ("A", "A-no-array", pic(a, rows, [bal], named=0), "refused 18 0"),
+    # 19: rows
+    ("A", "A-row-of-parameter", pic(a, [row(0), row(1, 2), row(1)], [bal]), "refused 19 1"),
+    ("A", "A-row-past-N", pic(a, [row(0), row(1), row(1, 255)], [bal]), "refused 19 2"),
+    ("A", "A-row-lowest", pic(a, [row(0, 3), row(1), row(1, 255)], [bal]), "refused 19 0"),
+    # 20: weights and padding
+    ("A", "A-weight-of-par", pic(a, rows, [bal, balance(1, {2: 1}, 8)]), "refused 20 1"),
+    ("A", "A-weight-of-stop", pic(a, rows, [balance(1, {7: 65535}, 8)]), "refused 20 0"),
+    ("B", "B-padding", pic(b, [row(0)], [balance(1, {}, 7), balance(1, {}, 7, pad=1)]), "refused 20 1"),
+    ("B", "B-padding-high", pic(b, [row(0)], [balance(1, {}, 7, pad=256)]), "refused 20 0"),
+    # 21: claims
+    ("A", "A-claim-of-par", pic(a, rows, [bal], [claim(6, 1), claim(2, 1)]), "refused 21 1"),
+    ("A", "A-claim-past-M", pic(a, rows, [bal], [claim(8, 1)]), "refused 21 0"),
+    ("A", "A-claim-of-65535", pic(a, rows, [bal], [claim(65535, 1)]), "refused 21 0"),
+    ("A", "A-claim-balance-K", pic(a, rows, [bal], [claim(6, 1, 1)]), "refused 21 0"),
+    ("A", "A-claim-last", pic(a, rows, [bal], [claim(6, 1), claim(6, 1), claim(6, 1, 0, 1)]), "refused 21 2"),
+    ("A", "A-claim-no-balance", pic(a, rows, [], [claim(6, 1)]), "refused 21 0"),
+    # 19 before 20 before 21
+    ("A", "A-19-first", pic(a, [row(0), row(1), row(2)], [balance(1, {2: 1}, 8)], [claim(2, 1)]), "refused 19 2"),
+    ("A", "A-20-first", pic(a, rows, [balance(1, {2: 1}, 8)], [claim(2, 1)]), "refused 20 0"),
+]
+
+
+def write(folder, files, args, lines):
+    data = os.path.join(folder, "data")
+    shutil.rmtree(data, ignore_errors=True)
+    os.makedirs(data)
+    for path, content in files.items():
+        if content is not None:
+            with open(os.path.join(data, path), "wb") as out:
+                out.write(content)
+    for path, rows in (("args", args), ("stdout", lines)):
+        if rows is not None:
+            with open(os.path.join(folder, path), "w") as out:
+                out.write("\n".join(rows) + "\n")
+
+
+def main():
+    files, args, lines = {name + ".pis": content for name, content in FILES.items()}, [], []
+    for array, name, content, answer in CASES:
+        assert name + ".pic" not in files, name
+        files[name + ".pic"] = content
+        args += [array + ".pis", name + ".pic"]
+        lines.append(f"{name}.pic {answer}")
+    del files["largest.pis"]
+    write(os.path.join("crates", "cases"), files, args, lines)
+    write(os.path.join("crates", "judge"), {"array.pis": a, "table.pic": table}, None, ["held 8 3 1 1"])
+    print(len(CASES), "cases")
+
+
+if __name__ == "__main__":
+    main()
