@@ -1,8 +1,7 @@
 // The line that a verdict is printed as: one place for every program that prints verdicts.
 // Promises nothing beyond safety: what is written to a file descriptor no contract can say; the programs' stored output tests it.
 // Depends on handover, layout and records (the verdict), io and libc.
-ghost use Prim.Native.Nat.{_≤_};
-ghost use lib.ListN.{length};
+ghost use Rattle.io.specs.Counts.{Counts};
 use handover::Verdict;
 use layout::Sizes;
 use libc::STDOUT_FILENO;
@@ -55,7 +54,7 @@ pub fn print_verdict(v: Verdict) {
 
 // Reads the file at a path into a buffer and answers how much came; a file that can't be opened counts as empty.
 pub fn read_file(path: &[u8], buffer: &mut [u8]) -> usize
-    ensures { λ n. ⌜ n ≤ length (now (buffer .exit)) ⌝ }
+    ensures { λ n. ⌜ Counts n (now (buffer .exit)) ⌝ }
 {
     let fd = os::open_read(path);
     if fd < 0 {

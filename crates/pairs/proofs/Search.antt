@@ -2,21 +2,23 @@
 use Prim.Native.Nat.{ℕ, _+_, _≤_, _<_}
 use native.Mathlib.Omega.{arith}
 use mathlib.Core.Path.{_≡_, refl, sym, _∙_}
+use mathlib.Core.Logic.{_⊎_, inl, inr}
 use mathlib.Core.Bool.{Bool, true, false, cond}
 use mathlib.Core.List.{List}
-use lib.Dec.{eqb}
+use lib.Dec.{eqb, ltb}
+use borrow.Author.Tests.{ltb-true, ltb-false}
 use Rattle.laws.specs.Search.{clear, hit, test, under, first}
-use Rattle.laws.proofs.Search.{clear-test, hit-test, first-zero, first-pass, first-here, clear-first}
+use Rattle.laws.proofs.Search.{decided, clear-test, hit-test, clear-under, first-zero, first-pass, first-here, clear-first}
 use Rattle.model.specs.Tree.{agentAt}
 use Rattle.model.specs.Rules.{Verdict, onLive, pairs}
 use Rattle.records.specs.declared.Record.{Record}
 use Rattle.records.specs.declared.Trailer.{Trailer}
-use Rattle.records.specs.Record.{arrayOf}
+use Rattle.records.specs.Record.{recordOf, arrayOf}
 use Rattle.layout.specs.declared.Sizes.{Sizes}
 use Rattle.layout.specs.Table.{tableOf}
 use Rattle.pairs.specs.declared.Pair.{Pair}
 use Rattle.pairs.specs.declared.Pair.the-variants.{Nowhere, At}
-use Rattle.pairs.specs.Pairs.{Reads, Ready, livePair, holdsAt, placeOf, atPair, pairSays}
+use Rattle.pairs.specs.Pairs.{Reads, Ready, figuresOf, livePair, holdsAt, placeOf, atPair, pairSays}
 use Rattle.pairs.proofs.Laws.{small-arity, arity-is, no-receiver, pair-is}
 
 -- ---- the searches at a pair, at a receiver and at a figure
@@ -72,15 +74,38 @@ module _ {rule : ℕ} {f : List ℕ} {t : Trailer} {s : List ℕ} {z : Sizes} {r
     row-passed l e = record { ready = h .ready; none = h .none; within = omega arith; passed = first-pass _ p (h .passed) e }
 
     -- a node that receives nothing
-    pub skip-row : {rp : Record} → Reads f t p rp → rp .kind < 5 → AtReceiver rule f t s z rows loads bounds answer (p + 1)
+    skip-row : {rp : Record} → Reads f t p rp → rp .kind < 5 → AtReceiver rule f t s z rows loads bounds answer (p + 1)
     skip-row r k =
         row-passed (r .below)
         (clear-first (t .nodes) _ (λ q l. no-receiver (h .ready) r k q (atPair rule (tableOf s z) p q)))
 
+    -- a receiver without figures
+    empty-row : {rp : Record} → Reads f t p rp → 5 ≤ rp .kind → cond (eqb rule 3) (rp .arity) (z .balances) ≡ 0
+        → AtReceiver rule f t s z rows loads bounds answer (p + 1)
+    unfolding atPair
+    empty-row {rp} r k e =
+        row-passed (r .below)
+        (clear-first (t .nodes) _ (λ q l.
+        let rq : Reads f t q (recordOf f t q) = record { below = l; is = refl } in
+        pair-is (h .ready) r k rq (atPair rule (tableOf s z) p q)
+        ∙ clear-under (livePair (arrayOf f t) (tableOf s z) p rp q (recordOf f t q)) _ (λ u. rw (arity-is (h .ready) r, e) (first-zero _))))
+
+    -- a node without figures
+    pub nothing-row : {rp : Record} → Reads f t p rp → figuresOf rule z rp ≡ 0 → AtReceiver rule f t s z rows loads bounds answer (p + 1)
+    nothing-row {rp} r e = go (decided (ltb (rp .kind) 5))
+      where
+        go : (ltb (rp .kind) 5 ≡ true) ⊎ (ltb (rp .kind) 5 ≡ false) → AtReceiver rule f t s z rows loads bounds answer (p + 1)
+        go (inl k) = skip-row r (ltb-true _ _ k)
+        go (inr k) = empty-row r (ltb-false _ _ k) (rw k at e)
+
     -- a receiver, before its senders
-    pub row : {rp : Record} {count : ℕ} → Reads f t p rp → 5 ≤ rp .kind → count ≡ cond (eqb rule 3) (rp .arity) (z .balances)
+    pub row : {rp : Record} {count : ℕ} → Reads f t p rp → count ≡ figuresOf rule z rp → (count ≡ 0 → ⊥)
         → AtSender rule f t s z rows loads bounds p rp count answer 0
-    row r k e = record { receiver = h; reads = r; receives = k; many = e; within = omega arith; passed = first-zero _ }
+    row {rp} {count} r e n = go (decided (ltb (rp .kind) 5))
+      where
+        go : (ltb (rp .kind) 5 ≡ true) ⊎ (ltb (rp .kind) 5 ≡ false) → AtSender rule f t s z rows loads bounds p rp count answer 0
+        go (inl k) = absurd (n (rw k at e))
+        go (inr k) = record { receiver = h; reads = r; receives = ltb-false _ _ k; many = rw k at e; within = omega arith; passed = first-zero _ }
 
     -- every receiver passed
     pub nowhere : t .nodes ≤ p → pairSays rule answer ≡ pairs (arrayOf f t) (tableOf s z) (atPair rule (tableOf s z))

@@ -3,7 +3,7 @@ use Prim.Native.Nat.{ℕ, suc, _+_, _*_, _<_}
 use mathlib.Core.Path.{_≡_}
 use mathlib.Core.Bool.{Bool, cond}
 use mathlib.Core.List.{List, [], _∷_}
-use lib.Dec.{eqb, leb}
+use lib.Dec.{eqb, leb, ltb}
 use lib.ListN.{length, getD}
 use Rattle.laws.specs.Search.{clear, hit, test, first}
 use Rattle.wire.specs.Numbers.{u32At}
@@ -71,6 +71,10 @@ pairSays rule (At i j n) = hit (placeOf rule i j n)
 abbrev pub SmallFigure : Pair → Type 0
 SmallFigure Nowhere = Unit {0}
 SmallFigure (At i j n) = n < 24
+
+-- how many figures a receiver's record has to be looked at; none for a node that does not receive
+abbrev pub figuresOf : ℕ → Sizes → Record → ℕ
+figuresOf rule z r = cond (ltb (r .kind) 5) 0 (cond (eqb rule 3) (r .arity) (z .balances))
 
 -- ---- the same by the checker's own lists
 

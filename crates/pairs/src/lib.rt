@@ -10,7 +10,7 @@ ghost use Rattle.laws.specs.Search.{every};
 ghost use Rattle.model.specs.Rules as M;
 ghost use Rattle.records.specs.Record.{arrayOf};
 ghost use Rattle.layout.specs.Table.{tableOf};
-ghost use Rattle.pairs.specs.Pairs.{livePair, holdsAt, bearsBoth, argumentHolds, balanceHolds, pairSays, Reads, Ready, pairsOf, SmallFigure};
+ghost use Rattle.pairs.specs.Pairs.{livePair, holdsAt, bearsBoth, argumentHolds, balanceHolds, pairSays, Reads, Ready, pairsOf, SmallFigure, figuresOf};
 use layout::Sizes;
 use records::Record;
 use records::Trailer;
@@ -73,10 +73,13 @@ fn live(
     fit_both(z, loads, bounds, p, q)
 }
 
-// How many figures the rule looks at.
+// How many figures the rule looks at: none where the node is no receiver.
 fn figures(rule: u8, z: Sizes, rp: Record) -> usize
-    ensures { λ n. ⌜ n ≡ cond (eqb rule 3) (rp .arity) (z .balances) ⌝ }
+    ensures { λ n. ⌜ n ≡ figuresOf rule z rp ⌝ }
 {
+    if rp.kind < 5 {
+        return 0;
+    }
     if rule == 3 {
         return rp.arity;
     }
@@ -156,10 +159,10 @@ pub fn first_pair(
     let mut answer = Pair::Nowhere;
     'receiver: for p in 0..nodes {
         let rp = records::record_at(file, t.start + 16 * p);
-        if rp.kind < 5 {
+        let count = figures(rule, z, rp);
+        if count == 0 {
             continue 'receiver;
         }
-        let count = figures(rule, z, rp);
         'sender: for q in 0..nodes {
             let rq = records::record_at(file, t.start + 16 * q);
             if !live(file, t, table, z, rows, loads, bounds, p, rp, q, rq) {

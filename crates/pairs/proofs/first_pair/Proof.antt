@@ -3,7 +3,7 @@ use Prim.Native.Nat.{_-_}
 use mathlib.Core.Path.{sym, _∙_, subst}
 use Rattle.pairs.specs.Pairs.{SmallFigure}
 use borrow.Author.Tests.{not-true, not-false}
-use Rattle.pairs.proofs.Search.{AtReceiver, AtSender, AtFigure, begin, skip-row, row, nowhere, skip-pair, pair, next-row, pass, next-pair, found, small-figure}
+use Rattle.pairs.proofs.Search.{AtReceiver, AtSender, AtFigure, begin, nothing-row, row, nowhere, skip-pair, pair, next-row, pass, next-pair, found, small-figure}
 use native.Mathlib.Omega.{arith}
 use borrow.Author.Needs.{needs}
 use Rattle.pairs.proofs.first_pair.Statement.{statement}
@@ -54,10 +54,10 @@ receiver-less c = search needs
 receiver-again :
     tie.Need-receiver-again Inv-loop μ-loop Inv-sender μ-sender Inv-receiver μ-receiver
 receiver-again c =
-    skip-row
+    nothing-row
     (c .before .before .before .before .before .receiver .inv)
     (record { below = c .before .before .before .before .receiver-test .taken; is = c .before .before .record-at .ensures })
-    (c .if1 .taken)
+    (sym (c .before .figures .ensures) ∙ c .if1 .taken)
 
 figures-requires :
     tie.Need-figures-requires Inv-loop μ-loop Inv-sender μ-sender Inv-receiver μ-receiver
@@ -66,10 +66,10 @@ figures-requires c κs = search needs
 sender-holds : tie.Need-sender-holds Inv-loop μ-loop Inv-sender μ-sender Inv-receiver μ-receiver
 sender-holds c =
     row
-    (c .before .before .before .before .before .before .receiver .inv)
-    (record { below = c .before .before .before .before .before .receiver-test .taken; is = c .before .before .before .record-at .ensures })
-    (omega arith)
-    (c .figures .ensures)
+    (c .before .before .before .before .before .receiver .inv)
+    (record { below = c .before .before .before .before .receiver-test .taken; is = c .before .before .record-at .ensures })
+    (c .before .figures .ensures)
+    (c .if1 .left)
 
 mul-record-at-2 :
     tie.Need-mul-record-at-2 Inv-loop μ-loop Inv-sender μ-sender Inv-receiver μ-receiver

@@ -1,0 +1,523 @@
+//! Random arrays, tables, attempts and spoiled files.
+
+use std::collections::{BTreeMap, BTreeSet};
+
+use super::build::*;
+use crate::bytes::bit;
+use crate::calculus::{attempt, begin, safe, Configuration, Marker, Opening, Thread};
+use crate::*;
+
+struct Dice(u64);
+
+impl Dice {
+    fn below(&mut self, n: usize) -> usize {
+        self.0 ^= self.0 << 13;
+        self.0 ^= self.0 >> 7;
+        self.0 ^= self.0 << 17;
+        (self.0 >> 11) as usize % n
+    }
+
+    fn choices(&mut self) -> [u8; 128] {
+        let mut choices = [0; 128];
+        choices
+            .iter_mut()
+            .for_each(|byte| *byte = self.below(256) as u8);
+        choices
+    }
+}
+
+/// A random array that the reader must accept, and its number of names.
+fn random_array(dice: &mut Dice, most: usize) -> (Vec<u8>, usize) {
+    let mut records: Vec<Record> = vec![stop()];
+    let mut waiting: Vec<(usize, Vec<u8>)> = vec![(0, vec![])];
+    let mut names = 0u8;
+    while !waiting.is_empty() {
+        let (at, mut scope) = waiting.swap_remove(dice.below(waiting.len()));
+        if records.len() + 2 > most || names > 240 {
+            continue;
+        }
+        let next = records.len() as u16;
+        // First two news, then some pars, then anything.
+        let kind = match at {
+            _ if scope.len() < 2 => 0,
+            _ if at <= most / 8 => 2,
+            _ => dice.below(10),
+        };
+        if kind == 1 {
+            continue;
+        }
+        let arity = dice.below(4) / 2;
+        let some = |dice: &mut Dice| match scope.len() {
+            0 => 0,
+            length => scope[dice.below(length)],
+        };
+        let channel = if dice.below(3) > 0 { 0 } else { some(dice) };
+        let mut two = false;
+        let mut bound = vec![];
+        records[at] = match kind {
+            0 => {
+                bound.push(names);
+                new(names, next)
+            }
+            2..=4 => {
+                two = true;
+                let (left, right) = if dice.below(2) == 0 {
+                    (next, next + 1)
+                } else {
+                    (next + 1, next)
+                };
+                if kind == 4 {
+                    choice(left, right)
+                } else {
+                    par(left, right)
+                }
+            }
+            5..=7 => {
+                let sent: Vec<u8> = (0..arity).map(|_| some(dice)).collect();
+                out(channel, &sent, next)
+            }
+            _ => {
+                bound.extend((0..arity as u8).map(|i| names + i));
+                if kind == 8 {
+                    input(channel, &bound, next)
+                } else {
+                    resource(channel, &bound, next)
+                }
+            }
+        };
+        names += bound.len() as u8;
+        scope.extend(bound);
+        records.push(stop());
+        waiting.push((usize::from(next), scope.clone()));
+        if two {
+            records.push(stop());
+            waiting.push((usize::from(next) + 1, scope));
+        }
+    }
+    (array(u16::from(names), &records), usize::from(names))
+}
+
+/// The least rows that meet rules 1 and 3 where every balance fits.
+fn least_rows(array: &Array) -> Vec<Vec<usize>> {
+    let mut rows = vec![BTreeSet::new(); array.names()];
+    for o in array.opened().iter() {
+        rows[o].insert(o);
+    }
+    loop {
+        let before = rows.clone();
+        for p in array.nodes().iter().filter(|node| node.is_receiver()) {
+            for q in array.nodes().iter().filter(|node| node.is_sender()) {
+                if p.arity() == q.arity() && !rows[p.name].is_disjoint(&rows[q.name]) {
+                    for (to, from) in p.arguments.iter().zip(&q.arguments) {
+                        let row = rows[*from].clone();
+                        rows[*to].extend(row);
+                    }
+                }
+            }
+        }
+        if rows == before {
+            return rows
+                .into_iter()
+                .map(|row| row.into_iter().collect())
+                .collect();
+        }
+    }
+}
+
+/// A table with least rows and random weights.
+fn random_parts(dice: &mut Dice, array: &Array) -> Parts {
+    let agents: Vec<usize> = (0..array.nodes().len())
+        .filter(|i| array.agent(*i).is_some())
+        .collect();
+    let mut parts = Parts {
+        rows: least_rows(array),
+        ..Parts::default()
+    };
+    for _ in 0..dice.below(3) {
+        let rarely = 1 + dice.below(12);
+        let mut weights = vec![];
+        for agent in &agents {
+            if dice.below(rarely) == 0 {
+                weights.push((*agent, 1 + dice.below(2) as u16));
+            }
+        }
+        parts.balances.push((dice.below(6) as u32, weights));
+    }
+    if !agents.is_empty() && !parts.balances.is_empty() {
+        for _ in 0..dice.below(2) {
+            let agent = agents[dice.below(agents.len())] as u16;
+            let balance = dice.below(parts.balances.len()) as u16;
+            parts.claims.push([agent, dice.below(4) as u16, balance, 0]);
+        }
+    }
+    parts
+}
+
+/// The configuration that lent lists stand for.
+fn lifted(array: &Array, threads: &[u32], markers: &[u16], counts: Counts) -> Configuration {
+    let mut trees = vec![Marker::empty()];
+    for entry in markers.chunks(4).take(counts.markers) {
+        let part = |i: usize| trees[usize::from(entry[i])].clone();
+        trees.push(Marker::new(
+            usize::from(entry[0]),
+            usize::from(entry[1]),
+            part(2),
+            part(3),
+        ));
+    }
+    let width = 2 + array.names();
+    let lift = |words: &[u32]| {
+        let mut names = BTreeMap::new();
+        for (name, word) in words[2..]
+            .iter()
+            .enumerate()
+            .filter(|(_, word)| **word != 0)
+        {
+            let new = ((word - 1) / 65_536) as usize;
+            let marker = trees[((word - 1) % 65_536) as usize].clone();
+            names.insert(name, Opening { new, marker });
+        }
+        Thread {
+            node: words[0] as usize,
+            marker: trees[words[1] as usize].clone(),
+            names,
+        }
+    };
+    Configuration {
+        threads: threads
+            .chunks(width)
+            .take(counts.threads)
+            .map(lift)
+            .collect(),
+    }
+}
+
+/// Two random positions, mostly of threads that are ready.
+fn random_pair(dice: &mut Dice, array: &Array, configuration: &Configuration) -> (usize, usize) {
+    let threads = &configuration.threads;
+    let mut ready = vec![];
+    for (i, p) in threads.iter().enumerate() {
+        for (j, q) in threads.iter().enumerate() {
+            let (input, output) = (&array.nodes()[p.node], &array.nodes()[q.node]);
+            let kinds = input.is_receiver() && output.is_sender();
+            let same = p.names[&input.name] == q.names[&output.name];
+            if kinds && same && input.arity() == output.arity() {
+                ready.push((i, j));
+            }
+        }
+    }
+    if ready.is_empty() || dice.below(4) == 0 {
+        (dice.below(threads.len() + 1), dice.below(threads.len() + 1))
+    } else {
+        ready[dice.below(ready.len())]
+    }
+}
+
+#[test]
+fn engine_and_calculus_agree() {
+    let mut dice = Dice(1);
+    let mut steps = 0;
+    for _ in 0..400 {
+        let (file, names) = random_array(&mut dice, 60);
+        let array = read_array(&file).unwrap();
+        let mut threads = vec![0; 256 * (2 + names)];
+        let mut markers = vec![0; 4096 * 4];
+        let choices = dice.choices();
+        let mut free = begin(&array, &|node| bit(&choices, node));
+        let mut counts = Counts {
+            threads: start(&file, &choices, &mut threads).unwrap(),
+            markers: 0,
+        };
+        assert_eq!(lifted(&array, &threads, &markers, counts), free);
+        for _ in 0..40 {
+            let choices = dice.choices();
+            let (receiver, sender) = random_pair(&mut dice, &array, &free);
+            let next = attempt(&array, &free, receiver, sender, &|node| bit(&choices, node));
+            let stepped = step(
+                &file,
+                &choices,
+                &mut threads,
+                counts.threads,
+                &mut markers,
+                counts.markers,
+                receiver,
+                sender,
+            );
+            match (stepped, next) {
+                (Ok(after), Ok(next)) => {
+                    counts = after;
+                    free = next;
+                    steps += 1;
+                }
+                (Err(refusal), Err(number)) => assert_eq!(refusal.number, number),
+                (Err(refusal), Ok(_)) => {
+                    assert!(refusal.number >= 28);
+                    break;
+                }
+                (Ok(_), Err(number)) => panic!("only the calculus refused: {number}"),
+            }
+            assert_eq!(lifted(&array, &threads, &markers, counts), free);
+        }
+    }
+    assert!(steps > 2000, "{steps}");
+}
+
+#[test]
+fn a_walk_is_its_steps() {
+    let mut dice = Dice(2);
+    let mut endings = [0; 3];
+    for _ in 0..300 {
+        let (file, names) = random_array(&mut dice, 60);
+        let choices = dice.choices();
+        let mut threads = vec![9; 30 * (2 + names)];
+        let mut markers = vec![9; 12 * 4];
+        let Ok(count) = start(&file, &choices, &mut threads) else {
+            continue;
+        };
+        let allowed = dice.below(20) as u32;
+        let mut by_steps = (threads.clone(), markers.clone());
+        let walked = walk(
+            &file,
+            &choices,
+            &mut threads,
+            count,
+            &mut markers,
+            0,
+            allowed,
+        )
+        .unwrap();
+
+        let mut counts = Counts {
+            threads: count,
+            markers: 0,
+        };
+        let mut steps = 0;
+        let ending = 'steps: loop {
+            for receiver in 0..counts.threads {
+                for sender in 0..counts.threads {
+                    let mut trial = by_steps.clone();
+                    let stepped = step(
+                        &file,
+                        &choices,
+                        &mut trial.0,
+                        counts.threads,
+                        &mut trial.1,
+                        counts.markers,
+                        receiver,
+                        sender,
+                    );
+                    match stepped {
+                        Err(Refusal {
+                            number: 25..=27, ..
+                        }) => continue,
+                        _ if steps == allowed => break 'steps Ending::Spent,
+                        Err(Refusal {
+                            number: 28..=29, ..
+                        }) => break 'steps Ending::Full,
+                        Ok(after) => {
+                            by_steps = trial;
+                            counts = after;
+                            steps += 1;
+                            continue 'steps;
+                        }
+                        Err(refusal) => panic!("{refusal:?}"),
+                    }
+                }
+            }
+            break Ending::Quiet;
+        };
+        assert_eq!(
+            walked,
+            Walked {
+                ending,
+                steps,
+                counts
+            }
+        );
+        assert_eq!((threads, markers), by_steps);
+        endings[ending as usize] += 1;
+    }
+    assert!(endings.iter().all(|count| *count > 5), "{endings:?}");
+}
+
+#[test]
+fn accepted_tables_are_safe() {
+    let mut dice = Dice(3);
+    let (mut accepted, mut steps) = (0, 0);
+    for _ in 0..4000 {
+        let (file, _) = random_array(&mut dice, 40);
+        let array = read_array(&file).unwrap();
+        let parts = random_parts(&mut dice, &array);
+        let bytes = table(&file, &parts);
+        if parts.balances.is_empty() || !matches!(check(&file, &bytes), Verdict::Held { .. }) {
+            continue;
+        }
+        accepted += 1;
+        let table = read_table(&file, &bytes).unwrap();
+        let choices = dice.choices();
+        let mut configuration = begin(&array, &|node| bit(&choices, node));
+        assert!(safe(&array, &table, &configuration));
+        for _ in 0..30 {
+            let choices = dice.choices();
+            let (receiver, sender) = random_pair(&mut dice, &array, &configuration);
+            let next = attempt(&array, &configuration, receiver, sender, &|node| {
+                bit(&choices, node)
+            });
+            if let Ok(next) = next {
+                configuration = next;
+                steps += 1;
+                assert!(safe(&array, &table, &configuration));
+            }
+        }
+    }
+    assert!(accepted > 100 && steps > 200, "{accepted} {steps}");
+}
+
+#[test]
+fn spoiled_files_are_refused_or_read() {
+    let mut dice = Dice(4);
+    let mut numbers = [0; 30];
+    for round in 0..20_000 {
+        let (mut file, names) = random_array(&mut dice, 24);
+        let mut bytes = match read_array(&file) {
+            Ok(array) => table(&file, &random_parts(&mut dice, &array)),
+            Err(refusal) => panic!("{refusal:?}"),
+        };
+        let spoiled = if round % 2 == 0 {
+            &mut file
+        } else {
+            &mut bytes
+        };
+        for _ in 0..dice.below(3) {
+            let at = dice.below(spoiled.len());
+            spoiled[at] = if dice.below(2) == 0 {
+                dice.below(12)
+            } else {
+                dice.below(256)
+            } as u8;
+        }
+        if dice.below(4) > 0 {
+            mend(spoiled);
+        }
+        match check(&file, &bytes) {
+            Verdict::Refused(refusal) => numbers[usize::from(refusal.number)] += 1,
+            _ => numbers[0] += 1,
+        }
+        assert!(file.starts_with(remark(&file)));
+
+        let mut threads = vec![0; 8 * (2 + names)];
+        let mut markers = vec![0; 4 * 4];
+        let choices = dice.choices();
+        let started = start(&file, &choices, &mut threads).unwrap_or(0);
+        if dice.below(4) == 0 {
+            let at = dice.below(threads.len());
+            threads[at] =
+                [dice.below(20), 65_536 * dice.below(20) + dice.below(5)][dice.below(2)] as u32;
+        }
+        markers
+            .iter_mut()
+            .for_each(|number| *number = dice.below(12) as u16);
+        let thread_count = if dice.below(4) == 0 {
+            dice.below(10)
+        } else {
+            started
+        };
+        let marker_count = if dice.below(4) == 0 { dice.below(6) } else { 0 };
+        let (receiver, sender) = (dice.below(4), dice.below(4));
+        let stepped = step(
+            &file,
+            &choices,
+            &mut threads,
+            thread_count,
+            &mut markers,
+            marker_count,
+            receiver,
+            sender,
+        );
+        if let Err(refusal) = stepped {
+            numbers[usize::from(refusal.number)] += 1;
+        }
+        let _ = walk(
+            &file,
+            &choices,
+            &mut threads,
+            thread_count,
+            &mut markers,
+            marker_count,
+            9,
+        );
+    }
+    assert!(
+        numbers[..=27].iter().filter(|count| **count > 0).count() > 20,
+        "{numbers:?}"
+    );
+}
+
+/// Refusal 12 by going up the tree from each node.
+fn slow_reach(array: &[Record], names: usize) -> Option<usize> {
+    let child =
+        |record: &Record, at: usize| usize::from(u16::from_le_bytes([record[at], record[at + 1]]));
+    let mut parent = vec![0; array.len()];
+    for (i, record) in array.iter().enumerate() {
+        for at in [2, 4] {
+            let child = child(record, at);
+            if child != 0 {
+                parent[child] = i;
+            }
+        }
+    }
+    (0..array.len()).find(|&i| {
+        let record = &array[i];
+        let mut used = vec![];
+        if record[0] >= 4 {
+            used.push(record[6]);
+        }
+        if record[0] == 4 {
+            used.extend(&record[8..8 + usize::from(record[1])]);
+        }
+        used.iter().any(|name| {
+            assert!(usize::from(*name) < names);
+            let mut at = i;
+            while at != 0 {
+                at = parent[at];
+                let above = &array[at];
+                let binds = match above[0] {
+                    1 => above[6] == *name,
+                    5 | 6 => above[8..8 + usize::from(above[1])].contains(name),
+                    _ => false,
+                };
+                if binds {
+                    return false;
+                }
+            }
+            true
+        })
+    })
+}
+
+#[test]
+fn reach_agrees_with_going_up() {
+    let mut dice = Dice(5);
+    let mut found = [0; 2];
+    for _ in 0..3000 {
+        let (file, names) = random_array(&mut dice, 30);
+        let records = file[..file.len() - 16].chunks(16);
+        let mut records: Vec<Record> = records.map(|bytes| bytes.try_into().unwrap()).collect();
+        for record in &mut records {
+            if record[0] >= 4 && dice.below(4) == 0 {
+                record[6] = dice.below(names) as u8;
+            }
+            if record[0] == 4 && record[1] > 0 && dice.below(4) == 0 {
+                record[8] = dice.below(names) as u8;
+            }
+        }
+        let expected = slow_reach(&records, names);
+        let got = read_array(&array(names as u16, &records));
+        match expected {
+            Some(place) => assert_eq!(got, Err(Refusal { number: 12, place })),
+            None => assert!(got.is_ok()),
+        }
+        found[usize::from(expected.is_some())] += 1;
+    }
+    assert!(found.iter().all(|count| *count > 100), "{found:?}");
+}
