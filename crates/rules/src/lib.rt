@@ -50,7 +50,15 @@ fn all_bounds(t: Trailer, table: &[u8], z: Sizes) -> [u32; 24]
 }
 
 // Rule 1.
-fn rule1(file: &[u8], t: Trailer, table: &[u8], z: Sizes, rows: &[u64], loads: &[u32], bounds: &[u32]) -> Ruling
+fn rule1(
+    file: &[u8],
+    t: Trailer,
+    table: &[u8],
+    z: Sizes,
+    rows: &[u64],
+    loads: &[u32],
+    bounds: &[u32],
+) -> Ruling
     requires { ⌜ Ready (now file) t (now table) z (now rows) (now loads) (now bounds) ⌝ }
     ensures { λ r. ⌜ ruled r ≡ M.check1 (arrayOf (now (file .entry)) t) (tableOf (now (table .entry)) z) ⌝ }
 {
@@ -68,7 +76,15 @@ fn rule1(file: &[u8], t: Trailer, table: &[u8], z: Sizes, rows: &[u64], loads: &
 }
 
 // Rule 2: the loads of node 0 are the first of the list.
-fn rule2(file: &[u8], t: Trailer, table: &[u8], z: Sizes, rows: &[u64], loads: &[u32], bounds: &[u32]) -> Ruling
+fn rule2(
+    file: &[u8],
+    t: Trailer,
+    table: &[u8],
+    z: Sizes,
+    rows: &[u64],
+    loads: &[u32],
+    bounds: &[u32],
+) -> Ruling
     requires { ⌜ Ready (now file) t (now table) z (now rows) (now loads) (now bounds) ⌝ }
     ensures { λ r. ⌜ ruled r ≡ M.check2 (arrayOf (now (file .entry)) t) (tableOf (now (table .entry)) z) ⌝ }
 {
@@ -83,7 +99,15 @@ fn rule2(file: &[u8], t: Trailer, table: &[u8], z: Sizes, rows: &[u64], loads: &
 }
 
 // Rule 3.
-fn rule3(file: &[u8], t: Trailer, table: &[u8], z: Sizes, rows: &[u64], loads: &[u32], bounds: &[u32]) -> Ruling
+fn rule3(
+    file: &[u8],
+    t: Trailer,
+    table: &[u8],
+    z: Sizes,
+    rows: &[u64],
+    loads: &[u32],
+    bounds: &[u32],
+) -> Ruling
     requires { ⌜ Ready (now file) t (now table) z (now rows) (now loads) (now bounds) ⌝ }
     ensures { λ r. ⌜ ruled r ≡ M.check3 (arrayOf (now (file .entry)) t) (tableOf (now (table .entry)) z) ⌝ }
 {
@@ -94,7 +118,15 @@ fn rule3(file: &[u8], t: Trailer, table: &[u8], z: Sizes, rows: &[u64], loads: &
 }
 
 // Rule 4.
-fn rule4(file: &[u8], t: Trailer, table: &[u8], z: Sizes, rows: &[u64], loads: &[u32], bounds: &[u32]) -> Ruling
+fn rule4(
+    file: &[u8],
+    t: Trailer,
+    table: &[u8],
+    z: Sizes,
+    rows: &[u64],
+    loads: &[u32],
+    bounds: &[u32],
+) -> Ruling
     requires { ⌜ Ready (now file) t (now table) z (now rows) (now loads) (now bounds) ⌝ }
     ensures { λ r. ⌜ ruled r ≡ M.check4 (arrayOf (now (file .entry)) t) (tableOf (now (table .entry)) z) ⌝ }
 {
@@ -116,7 +148,15 @@ fn claim_holds(table: &[u8], loads: &[u32], bounds: &[u32], at: usize) -> bool
 }
 
 // Rule 5.
-fn rule5(file: &[u8], t: Trailer, table: &[u8], z: Sizes, rows: &[u64], loads: &[u32], bounds: &[u32]) -> Ruling
+fn rule5(
+    file: &[u8],
+    t: Trailer,
+    table: &[u8],
+    z: Sizes,
+    rows: &[u64],
+    loads: &[u32],
+    bounds: &[u32],
+) -> Ruling
     requires { ⌜ Ready (now file) t (now table) z (now rows) (now loads) (now bounds) ⌝ }
     ensures { λ r. ⌜ ruled r ≡ M.check5 (arrayOf (now (file .entry)) t) (tableOf (now (table .entry)) z) ⌝ }
 {
@@ -145,7 +185,15 @@ fn is_held(r: Ruling) -> bool
 }
 
 // Rules 3 to 5.
-fn later_rules(file: &[u8], t: Trailer, table: &[u8], z: Sizes, rows: &[u64], loads: &[u32], bounds: &[u32]) -> Ruling
+fn later_rules(
+    file: &[u8],
+    t: Trailer,
+    table: &[u8],
+    z: Sizes,
+    rows: &[u64],
+    loads: &[u32],
+    bounds: &[u32],
+) -> Ruling
     requires { ⌜ Ready (now file) t (now table) z (now rows) (now loads) (now bounds) ⌝ }
     ensures { λ r. ⌜ ruled r ≡ from3 (arrayOf (now (file .entry)) t) (tableOf (now (table .entry)) z) ⌝ }
 {
@@ -161,7 +209,15 @@ fn later_rules(file: &[u8], t: Trailer, table: &[u8], z: Sizes, rows: &[u64], lo
 }
 
 // The five rules, over the checker's own lists.
-fn all_rules(file: &[u8], t: Trailer, table: &[u8], z: Sizes, rows: &[u64], loads: &[u32], bounds: &[u32]) -> Ruling
+fn all_rules(
+    file: &[u8],
+    t: Trailer,
+    table: &[u8],
+    z: Sizes,
+    rows: &[u64],
+    loads: &[u32],
+    bounds: &[u32],
+) -> Ruling
     requires { ⌜ Ready (now file) t (now table) z (now rows) (now loads) (now bounds) ⌝ }
     ensures { λ r. ⌜ ruled r ≡ M.verdict (arrayOf (now (file .entry)) t) (tableOf (now (table .entry)) z) ⌝ }
 {

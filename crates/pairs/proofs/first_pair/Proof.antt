@@ -45,6 +45,10 @@ record-at-requires :
     tie.Need-record-at-requires Inv-loop μ-loop Inv-sender μ-sender Inv-receiver μ-receiver
 record-at-requires c κs = search needs
 
+figures-requires :
+    tie.Need-figures-requires Inv-loop μ-loop Inv-sender μ-sender Inv-receiver μ-receiver
+figures-requires c κs = search needs
+
 add-p : tie.Need-add-p Inv-loop μ-loop Inv-sender μ-sender Inv-receiver μ-receiver
 add-p c = search needs
 
@@ -58,10 +62,6 @@ receiver-again c =
     (c .before .before .before .before .before .receiver .inv)
     (record { below = c .before .before .before .before .receiver-test .taken; is = c .before .before .record-at .ensures })
     (sym (c .before .figures .ensures) ∙ c .if1 .taken)
-
-figures-requires :
-    tie.Need-figures-requires Inv-loop μ-loop Inv-sender μ-sender Inv-receiver μ-receiver
-figures-requires c κs = search needs
 
 sender-holds : tie.Need-sender-holds Inv-loop μ-loop Inv-sender μ-sender Inv-receiver μ-receiver
 sender-holds c =
@@ -170,10 +170,10 @@ first-pair-spec =
     mul-record-at
     add-record-at
     record-at-requires
+    figures-requires
     add-p
     receiver-less
     receiver-again
-    figures-requires
     sender-holds
     mul-record-at-2
     add-record-at-2
