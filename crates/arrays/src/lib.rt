@@ -23,12 +23,6 @@ fn refused(number: u8) -> Check
     Check::Refused(Refusal { number, place: 0 })
 }
 
-fn wide(x: u32) -> usize
-    ensures { λ r. ⌜ (r ≡ x) × (r < 4294967296) ⌝ }
-{
-    x as usize
-}
-
 // What the last 16 bytes say.
 fn read_trailer(file: &[u8]) -> Trailer
     requires { ⌜ 16 ≤ length (now file) ⌝ }
@@ -36,7 +30,7 @@ fn read_trailer(file: &[u8]) -> Trailer
 {
     let len = file.len();
     Trailer {
-        start: wide(wire::u32_at(file, len - 16)),
+        start: wire::wide(wire::u32_at(file, len - 16)),
         nodes: wire::u16_at(file, len - 12),
         names: wire::u16_at(file, len - 10),
         sum: wire::u32_at(file, len - 8),

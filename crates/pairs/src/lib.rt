@@ -31,16 +31,12 @@ fn fit_both(z: Sizes, loads: &[u32], bounds: &[u32], p: usize, q: usize) -> bool
     let mut fits = true;
     let mut k: usize = 0;
     while k < z.balances {
-        fits = fits & (wide(loads[at + k]) + wide(loads[to + k]) <= wide(bounds[k]));
+        fits = fits
+            & (wire::wide64(loads[at + k]) + wire::wide64(loads[to + k])
+                <= wire::wide64(bounds[k]));
         k += 1;
     }
     fits
-}
-
-fn wide(x: u32) -> u64
-    ensures { λ r. ⌜ (r ≡ x) × (r < 4294967296) ⌝ }
-{
-    x as u64
 }
 
 // Receiver p and sender q, of the records given, are a live pair.
@@ -106,10 +102,10 @@ fn balance_holds(loads: &[u32], p: usize, rp: Record, q: usize, rq: Record, n: u
     requires { ⌜ (n < 24) × (p < 1024) × (q < 1024) × (rp .left < 1024) × (rq .left < 1024) × (length (now loads) ≡ 24576) ⌝ }
     ensures { λ b. ⌜ b ≡ balanceHolds (now (loads .entry)) p rp q rq n ⌝ }
 {
-    let left = wide(loads[24 * rp.left + n]) + wide(loads[24 * rq.left + n]);
-    let sender = wide(loads[24 * q + n]);
+    let left = wire::wide64(loads[24 * rp.left + n]) + wire::wide64(loads[24 * rq.left + n]);
+    let sender = wire::wide64(loads[24 * q + n]);
     if rp.kind == 5 {
-        return left <= sender + wide(loads[24 * p + n]);
+        return left <= sender + wire::wide64(loads[24 * p + n]);
     }
     left <= sender
 }

@@ -26,12 +26,6 @@ pub enum Ruling {
     Rule5(usize),
 }
 
-fn wide(x: u32) -> u64
-    ensures { λ r. ⌜ (r ≡ x) × (r < 4294967296) ⌝ }
-{
-    x as u64
-}
-
 // The bounds of all balances.
 fn all_bounds(t: Trailer, table: &[u8], z: Sizes) -> [u32; 24]
     requires { ⌜ (t .nodes ≤ 1024) × (t .names ≤ 256) × Laid t (now table) z ⌝ }
@@ -144,7 +138,7 @@ fn claim_holds(table: &[u8], loads: &[u32], bounds: &[u32], at: usize) -> bool
     let agent = wire::u16_at(table, at);
     let most = wire::u16_at(table, at + 2);
     let balance = wire::u16_at(table, at + 4);
-    wide(bounds[balance]) < wide(loads[24 * agent + balance]) * (most as u64 + 1)
+    wire::wide64(bounds[balance]) < wire::wide64(loads[24 * agent + balance]) * (most as u64 + 1)
 }
 
 // Rule 5.

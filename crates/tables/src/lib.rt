@@ -51,12 +51,6 @@ fn check_rows(file: &[u8], t: Trailer, table: &[u8], z: Sizes) -> Check
     check_numbers(file, t, table, z)
 }
 
-fn wide(x: u32) -> usize
-    ensures { λ r. ⌜ r ≡ x ⌝ }
-{
-    x as usize
-}
-
 // The parts start where they should, and fill the file.
 fn parts_fit(table: &[u8], z: Sizes) -> bool
     requires { ⌜ (z .nodes ≤ 1024) × (z .names ≤ 256) × (z .balances ≤ 24) × (z .claims ≤ 256) ⌝ }
@@ -66,8 +60,8 @@ fn parts_fit(table: &[u8], z: Sizes) -> bool
     let len = table.len();
     let claims = layout::claims_at(z);
     (wire::u32_at(table, len - 28) == 0)
-        & (wide(wire::u32_at(table, len - 24)) == 32 * z.names)
-        & (wide(wire::u32_at(table, len - 20)) == claims)
+        & (wire::wide(wire::u32_at(table, len - 24)) == 32 * z.names)
+        & (wire::wide(wire::u32_at(table, len - 20)) == claims)
         & (claims + 8 * z.claims + 28 == len)
 }
 

@@ -6,7 +6,7 @@ ghost use lib.ListN.{length};
 ghost use Rattle.wire.specs.Numbers.{u16At, u32At, u64At, wordSum};
 
 // A byte as a wider number.
-fn wide(x: u8) -> u32
+fn byte(x: u8) -> u32
     ensures { λ r. ⌜ (r ≡ x) × (r < 256) ⌝ }
 {
     x as u32
@@ -17,8 +17,8 @@ pub fn u16_at(s: &[u8], at: usize) -> usize
     requires { ⌜ at + 1 < length (now s) ⌝ }
     ensures { λ r. ⌜ r ≡ u16At (now (s .entry)) at ⌝ }
 {
-    let low = wide(s[at]);
-    let high = wide(s[at + 1]);
+    let low = byte(s[at]);
+    let high = byte(s[at + 1]);
     (low + 256 * high) as usize
 }
 
@@ -27,14 +27,21 @@ pub fn u32_at(s: &[u8], at: usize) -> u32
     requires { ⌜ at + 3 < length (now s) ⌝ }
     ensures { λ r. ⌜ r ≡ u32At (now (s .entry)) at ⌝ }
 {
-    let b0 = wide(s[at]);
-    let b1 = wide(s[at + 1]);
-    let b2 = wide(s[at + 2]);
-    let b3 = wide(s[at + 3]);
+    let b0 = byte(s[at]);
+    let b1 = byte(s[at + 1]);
+    let b2 = byte(s[at + 2]);
+    let b3 = byte(s[at + 3]);
     b0 + 256 * b1 + 65536 * b2 + 16777216 * b3
 }
 
-fn wide64(x: u32) -> u64
+// A 32-bit number as an index, and as a number that sums and products of two fit in.
+pub fn wide(x: u32) -> usize
+    ensures { λ r. ⌜ (r ≡ x) × (r < 4294967296) ⌝ }
+{
+    x as usize
+}
+
+pub fn wide64(x: u32) -> u64
     ensures { λ r. ⌜ (r ≡ x) × (r < 4294967296) ⌝ }
 {
     x as u64

@@ -25,41 +25,41 @@ loop-holds : tie.Need-loop-holds Inv-loop μ-loop
 loop-holds c =
     (search needs, refl, refl, sym (every-zero _))
 
-add-wide : tie.Need-add-wide Inv-loop μ-loop
-add-wide c = search needs
+add-wide64 : tie.Need-add-wide64 Inv-loop μ-loop
+add-wide64 c = search needs
 
-mul-wide : tie.Need-mul-wide Inv-loop μ-loop
-mul-wide c = search needs
+mul-wide64 : tie.Need-mul-wide64 Inv-loop μ-loop
+mul-wide64 c = search needs
 
-shared-slice-read-wide : tie.Need-shared-slice-read-wide Inv-loop μ-loop
-shared-slice-read-wide c = search needs
+shared-slice-read-wide64 : tie.Need-shared-slice-read-wide64 Inv-loop μ-loop
+shared-slice-read-wide64 c = search needs
 
-wide-requires : tie.Need-wide-requires Inv-loop μ-loop
-wide-requires c κs = search needs
+wide64-requires : tie.Need-wide64-requires Inv-loop μ-loop
+wide64-requires c κs = search needs
 
-add-wide-2 : tie.Need-add-wide-2 Inv-loop μ-loop
-add-wide-2 c = search needs
+add-wide64-2 : tie.Need-add-wide64-2 Inv-loop μ-loop
+add-wide64-2 c = search needs
 
-mul-wide-2 : tie.Need-mul-wide-2 Inv-loop μ-loop
-mul-wide-2 c = search needs
+mul-wide64-2 : tie.Need-mul-wide64-2 Inv-loop μ-loop
+mul-wide64-2 c = search needs
 
-shared-slice-read-wide-2 : tie.Need-shared-slice-read-wide-2 Inv-loop μ-loop
-shared-slice-read-wide-2 c = search needs
+shared-slice-read-wide64-2 : tie.Need-shared-slice-read-wide64-2 Inv-loop μ-loop
+shared-slice-read-wide64-2 c = search needs
 
-wide-requires-2 : tie.Need-wide-requires-2 Inv-loop μ-loop
-wide-requires-2 c κs = search needs
+wide64-requires-2 : tie.Need-wide64-requires-2 Inv-loop μ-loop
+wide64-requires-2 c κs = search needs
 
 add-fits : tie.Need-add-fits Inv-loop μ-loop
 add-fits c = search needs
 
-mul-wide-3 : tie.Need-mul-wide-3 Inv-loop μ-loop
-mul-wide-3 c = search needs
+mul-wide64-3 : tie.Need-mul-wide64-3 Inv-loop μ-loop
+mul-wide64-3 c = search needs
 
-shared-slice-read-wide-3 : tie.Need-shared-slice-read-wide-3 Inv-loop μ-loop
-shared-slice-read-wide-3 c = search needs
+shared-slice-read-wide64-3 : tie.Need-shared-slice-read-wide64-3 Inv-loop μ-loop
+shared-slice-read-wide64-3 c = search needs
 
-wide-requires-3 : tie.Need-wide-requires-3 Inv-loop μ-loop
-wide-requires-3 c κs = search needs
+wide64-requires-3 : tie.Need-wide64-requires-3 Inv-loop μ-loop
+wide64-requires-3 c κs = search needs
 
 add-k : tie.Need-add-k Inv-loop μ-loop
 add-k c = search needs
@@ -71,12 +71,12 @@ loop-again : tie.Need-loop-again Inv-loop μ-loop
 loop-again c =
     let l = c .before .before .before .before .before .before .before .before .loop in
     let x = c .before .before .before .before .before .before .before .before .before .before .before .args in
-    let receiver = c .before .before .before .before .wide .ensures .0 in
-    let sender = c .before .before .wide2 .ensures .0 in (
+    let receiver = c .before .before .before .before .wide64 .ensures .0 in
+    let sender = c .before .before .wide642 .ensures .0 in (
       search needs,
       l .inv .1,
       l .inv .2,
-      rw (l .inv .3, receiver, sender, c .wide3 .ensures .0, l .inv .1, l .inv .2)
+      rw (l .inv .3, receiver, sender, c .wide643 .ensures .0, l .inv .1, l .inv .2)
           (sym (every-step (bearsBoth (x .loads .now) (x .bounds .now) (x .p) (x .q)) (l .k))),
     )
 
@@ -95,18 +95,18 @@ fit-both-spec =
     mul-at
     mul-to
     loop-holds
-    add-wide
-    mul-wide
-    shared-slice-read-wide
-    wide-requires
-    add-wide-2
-    mul-wide-2
-    shared-slice-read-wide-2
-    wide-requires-2
+    add-wide64
+    mul-wide64
+    shared-slice-read-wide64
+    wide64-requires
+    add-wide64-2
+    mul-wide64-2
+    shared-slice-read-wide64-2
+    wide64-requires-2
     add-fits
-    mul-wide-3
-    shared-slice-read-wide-3
-    wide-requires-3
+    mul-wide64-3
+    shared-slice-read-wide64-3
+    wide64-requires-3
     add-k
     loop-less
     loop-again

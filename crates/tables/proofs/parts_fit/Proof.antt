@@ -61,7 +61,7 @@ returns : tie.Need-returns
 returns c =
     let x = c .before .before .before .before .before .before .before .before .before .args in
     parts-tests (now (x .table)) (x .z) (c .before .before .before .before .before .before .u32-at .result) (c .before .before .before .before .wide .result) (c .before .wide2 .result) (c .before .before .before .before .before .before .before .claims-at .result)
-    (c .before .before .before .before .before .before .u32-at .ensures) (c .before .before .before .before .wide .ensures ∙ c .before .before .before .before .before .u32-at2 .ensures) (c .before .wide2 .ensures ∙ c .before .before .u32-at3 .ensures) (c .before .before .before .before .before .before .before .claims-at .ensures)
+    (c .before .before .before .before .before .before .u32-at .ensures) (c .before .before .before .before .wide .ensures .0 ∙ c .before .before .before .before .before .u32-at2 .ensures) (c .before .wide2 .ensures .0 ∙ c .before .before .u32-at3 .ensures) (c .before .before .before .before .before .before .before .claims-at .ensures)
 
 pub parts-fit-spec : {M : Type 1} → statement M
 parts-fit-spec =
