@@ -1,4 +1,4 @@
-// The line that a verdict is printed as: one place for every program that prints verdicts.
+// The lines that answers are printed as, and files read whole: one place for every program.
 // Promises nothing beyond safety: what is written to a file descriptor no contract can say; the programs' stored output tests it.
 // Depends on handover, layout and records (the verdict), io and libc.
 ghost use Rattle.io.specs.Counts.{Counts};
@@ -7,7 +7,8 @@ use layout::Sizes;
 use libc::STDOUT_FILENO;
 use records::Refusal;
 
-fn print_figure(n: usize) {
+// A space and the number.
+pub fn print_figure(n: usize) {
     io::write_all(STDOUT_FILENO, b" ");
     io::print_decimal(STDOUT_FILENO, n as u64);
 }
@@ -32,7 +33,7 @@ fn print_pair(number: usize, p: usize, q: usize, figure: usize) {
     print_figure(figure);
 }
 
-fn print_refusal(r: Refusal) {
+pub fn print_refusal(r: Refusal) {
     io::write_all(STDOUT_FILENO, b"refused");
     print_figure(r.number as usize);
     print_figure(r.place);
