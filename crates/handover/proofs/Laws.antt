@@ -1,16 +1,19 @@
--- From the parts to the whole promise: what the readers and the rules found is the definition's answer, and held carries demand 3.
+-- From the parts to the whole promise: what the readers and the rules found is the definition's answer; with it come demand 2 and,
+-- where it is held, demand 3.
 use Prim.Native.Nat.{ℕ, _+_, _<_}
-use native.Mathlib.Omega.{arith}
 use mathlib.Core.Path.{_≡_, refl, sym, ap, _∙_, subst}
+use mathlib.Core.Logic.{_↔_}
 use mathlib.Core.Bool.{_&&_}
 use mathlib.Core.List.{List}
 use lib.Dec.{eqb, ltb}
 use borrow.Author.Tests.{ltb-true}
 use Rattle.laws.specs.Search.{clear, hit, andThen}
-use Rattle.laws.proofs.Search.{and-split, test-clear, first-clear, andThen-join, clear-andThen, hit-andThen}
+use Rattle.laws.proofs.Search.{and-split, clear-hit, test-clear, first-clear, andThen-join, clear-andThen, hit-andThen}
 use Rattle.wire.specs.Numbers.{u16At}
 use Rattle.model.specs.Tree.{nodeAt, isAgent}
-use Rattle.model.specs.Rules.{ClaimsFit, verdict}
+use Rattle.model.specs.Rules as M
+use Rattle.model.specs.Rules.{ClaimsFit, at, verdict}
+use Rattle.model.proofs.Verdict.{held-rules, first-broken}
 use Rattle.model.proofs.Safety.{demand3}
 use Rattle.records.specs.declared.Refusal.{Refusal}
 use Rattle.records.specs.declared.Trailer.{Trailer}
@@ -27,7 +30,7 @@ use Rattle.rules.specs.declared.Ruling.the-variants as R
 use Rattle.rules.specs.Ruling.{ruled}
 use Rattle.handover.specs.declared.Verdict.{Verdict}
 use Rattle.handover.specs.declared.Verdict.the-variants.{Held, Refused}
-use Rattle.handover.specs.Front.{Said, held, says, arrayIn, sizesIn, tableIn, afterRules, judged, Demand3, Judges, verdictOf}
+use Rattle.handover.specs.Front.{Said, held, rule, refused, says, IsHeld, arrayIn, sizesIn, tableIn, afterRules, judged, Demand3, Judges, verdictOf}
 
 -- what refusal 21 leaves of the claims: each names a balance of the table
 claims-fit : (f : List ℕ) (t : Trailer) (s : List ℕ) (z : Sizes) → IsTable f t s z → ClaimsFit (tableOf s z)
@@ -38,13 +41,21 @@ claims-fit f t s z table c h =
     let named = and-split (isAgent (nodeAt (arrayOf f t) (u16At s at)) && ltb (u16At s (at + 4)) (z .balances)) (eqb (u16At s (at + 6)) 0) fits .0 in
     ltb-true _ _ (and-split (isAgent (nodeAt (arrayOf f t) (u16At s at))) (ltb (u16At s (at + 4)) (z .balances)) named .1)
 
+-- the broken rule that an answer names, if any
+abbrev broken : Said → M.Verdict
+broken (held m n k q) = clear
+broken (rule r figures) = hit (at r figures)
+broken (refused n p) = clear
+
 module _ (f s : List ℕ) where
   pub refused-judges : (r : Refusal) → filesRefusal f s ≡ hit record { number = r .number; place = r .place } → Judges f s (Refused r)
   unfolding judged
-  refused-judges r e = record { answers = sym (rw e); holds = λ m n k q h. absurd (nothing m n k q h) }
-    where
-      nothing : (m n k q : ℕ) → says (Refused r) ≡ held m n k q → ⊥
-      nothing m n k q h = let z : _≡_ {A = ℕ} 0 1 = cc in omega arith
+  refused-judges r e = record {
+    answers = sym (rw e);
+    exactly = λ none. clear-hit _ (sym none ∙ e);
+    breaks = λ n figures h. clear-hit _ (ap broken h);
+    holds = λ h. absurd h;
+  }
 
   module _ (clear′ : filesRefusal f s ≡ clear) (read : IsRead f (trailerOf f)) (table : IsTable f (trailerOf f) s (sizesIn f s)) where
     abbrev sized : Said
@@ -58,22 +69,34 @@ module _ (f s : List ℕ) where
     ruled-says (R.Rule4 p q k) = refl
     ruled-says (R.Rule5 c) = refl
 
-    -- only a ruling that is held says so
-    held-ruled : (x : Ruling) (m n k q : ℕ) → says (verdictOf x (sizesIn f s)) ≡ held m n k q → ruled x ≡ clear
-    held-ruled R.Held m n k q e = refl
-    held-ruled (R.Rule1 o) m n k q e = cc
-    held-ruled (R.Rule2 o) m n k q e = cc
-    held-ruled (R.Rule3 a b c) m n k q e = cc
-    held-ruled (R.Rule4 a b c) m n k q e = cc
-    held-ruled (R.Rule5 o) m n k q e = cc
+    broken-ruled : (x : Ruling) → broken (says (verdictOf x (sizesIn f s))) ≡ ruled x
+    broken-ruled R.Held = refl
+    broken-ruled (R.Rule1 o) = refl
+    broken-ruled (R.Rule2 k) = refl
+    broken-ruled (R.Rule3 p q n) = refl
+    broken-ruled (R.Rule4 p q k) = refl
+    broken-ruled (R.Rule5 c) = refl
+
+    -- a ruling is held exactly where its verdict says so
+    held-ruled : (x : Ruling) → IsHeld (says (verdictOf x (sizesIn f s))) ↔ (ruled x ≡ clear)
+    held-ruled R.Held = (λ h. refl, λ e. tt)
+    held-ruled (R.Rule1 o) = (λ h. absurd h, λ e. clear-hit _ (sym e))
+    held-ruled (R.Rule2 k) = (λ h. absurd h, λ e. clear-hit _ (sym e))
+    held-ruled (R.Rule3 p q n) = (λ h. absurd h, λ e. clear-hit _ (sym e))
+    held-ruled (R.Rule4 p q k) = (λ h. absurd h, λ e. clear-hit _ (sym e))
+    held-ruled (R.Rule5 c) = (λ h. absurd h, λ e. clear-hit _ (sym e))
 
     pub ruled-judges : (x : Ruling) → ruled x ≡ verdict (arrayIn f) (tableIn f s) → Judges f s (verdictOf x (sizesIn f s))
     unfolding judged
-    ruled-judges x e = record {
-      answers = sym (rw (clear′, ← e) (ruled-says x));
-      holds = λ m n k q h.
-          demand3 (arrayIn f) (tableIn f s) (read .formed) (claims-fit f (trailerOf f) s (sizesIn f s) table) (sym e ∙ held-ruled x m n k q h);
-    }
+    ruled-judges x e =
+        let both = held-rules (arrayIn f) (tableIn f s) in
+        let none : IsHeld (says (verdictOf x (sizesIn f s))) → verdict (arrayIn f) (tableIn f s) ≡ clear = λ h. sym e ∙ held-ruled x .0 h in
+        record {
+          answers = sym (rw (clear′, ← e) (ruled-says x));
+          exactly = λ u. (λ h. both .0 (none h), λ h. held-ruled x .1 (e ∙ both .1 h));
+          breaks = λ n figures h. first-broken (arrayIn f) (tableIn f s) (at n figures) (sym e ∙ sym (broken-ruled x) ∙ ap broken h);
+          holds = λ h. demand3 (arrayIn f) (tableIn f s) (read .formed) (claims-fit f (trailerOf f) s (sizesIn f s) table) (none h);
+        }
 
   -- the same by what the calls answered: trailer t, sizes z, ruling x
   pub passed-judges : (t : Trailer) (z : Sizes) (x : Ruling) → readArray f ≡ A.Read t → tableRefusal f t s ≡ clear → z ≡ sizesOf t s

@@ -1,13 +1,14 @@
 -- The front page's definitions: what the checker's answer says, what it must say, and what held promises.
 use Prim.Native.Nat.{ℕ}
 use mathlib.Core.Path.{_≡_}
+use mathlib.Core.Logic.{_↔_}
 use mathlib.Core.List.{List, [], _∷_}
 use Rattle.laws.specs.Search.{Found, clear, hit}
 use Rattle.model.specs.Tree.{Array}
 use Rattle.model.specs.Formed as F
 use Rattle.model.specs.Calculus.{Choices, Attempt, calculus, run}
 use Rattle.model.specs.Rules as M
-use Rattle.model.specs.Rules.{Table, verdict}
+use Rattle.model.specs.Rules.{Table, Rules, at, verdict, FirstBroken}
 use Rattle.model.specs.Safe.{Safe}
 use Rattle.records.specs.Record.{arrayOf}
 use Rattle.arrays.specs.File.{trailerOf}
@@ -69,10 +70,20 @@ judged f s =
 abbrev pub Demand3 : List ℕ → List ℕ → Type 0
 Demand3 f s = (ch : Choices) (us : List Attempt) → Safe (arrayIn f) (tableIn f s) (run calculus (arrayIn f) ch us)
 
--- the whole promise of an answer
+-- ---- the whole promise of an answer
+
+abbrev pub IsHeld : Said → Type 0
+IsHeld (held m n k q) = Unit {0}
+IsHeld (rule r figures) = ⊥
+IsHeld (refused n p) = ⊥
+
 pub record Judges (f s : List ℕ) (v : Verdict) : Type 0 where
   pub answers : says v ≡ judged f s
-  pub holds : (m n k q : ℕ) → says v ≡ held m n k q → Demand3 f s
+  -- demand 2: a table that no refusal meets is accepted exactly when the five rules hold
+  pub exactly : filesRefusal f s ≡ clear → IsHeld (says v) ↔ Rules (arrayIn f) (tableIn f s)
+  -- and otherwise the rule named fails at the place named, and everything before it holds
+  pub breaks : (r : ℕ) (figures : List ℕ) → says v ≡ rule r figures → FirstBroken (arrayIn f) (tableIn f s) (at r figures)
+  pub holds : IsHeld (says v) → Demand3 f s
 
 -- the verdict that a ruling of the five rules is
 abbrev pub verdictOf : Ruling → Sizes → Verdict

@@ -4,7 +4,8 @@
 //   read_array   specs/File of arrays: refusals 1 to 12, or what the trailer says
 //   remark       the same file: the leading part of the caller's own slice
 //   read_table   specs/Read of tables: refusals 1 to 21, or the sizes
-//   check        specs/Front: refusals 1 to 21, the first broken rule and its place, or held; and held carries demand 3
+//   check        specs/Front: refusals 1 to 21, the first broken rule and its place, or held; held exactly when the five rules hold (demand 2),
+//                and then demand 3
 //
 // The deepest call, `check`, takes about 150 KiB of stack, for the checker's own lists.
 ghost use mathlib.Core.Path.{_≡_};
