@@ -17,12 +17,6 @@ pub enum ArrayAnswer {
     Refused(Refusal),
 }
 
-fn refused(number: u8) -> Check
-    ensures { λ r. ⌜ r ≡ Check.Refused record { number = number; place = 0 } ⌝ }
-{
-    Check::Refused(Refusal { number, place: 0 })
-}
-
 // What the last 16 bytes say.
 fn read_trailer(file: &[u8]) -> Trailer
     requires { ⌜ 16 ≤ length (now file) ⌝ }
@@ -90,10 +84,10 @@ fn check_sum(file: &[u8], t: Trailer) -> Check
 {
     let len = file.len();
     if !((t.start <= 1024) & (t.start + 16 * t.nodes + 16 == len)) {
-        return refused(4);
+        return records::refused(4);
     }
     if t.sum != wire::word_sum(file, (len - 8) / 4) {
-        return refused(5);
+        return records::refused(5);
     }
     check_records(file, t)
 }
@@ -105,10 +99,10 @@ fn check_letters(file: &[u8], t: Trailer) -> Check
 {
     let len = file.len();
     if wire::u32_at(file, len - 4) != 827541840 {
-        return refused(2);
+        return records::refused(2);
     }
     if !((1 <= t.nodes) & (t.nodes <= 1024) & (t.names <= 256)) {
-        return refused(3);
+        return records::refused(3);
     }
     check_sum(file, t)
 }

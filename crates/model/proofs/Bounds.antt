@@ -2,7 +2,8 @@
 -- weight is counted twice. Summed over the nodes from i on: each load is at most its children's and its own weight; the children of
 -- these nodes lie above i and are each the child of one field; so what is left of the sums is the load of i and the weights.
 use Prim.Native.Nat.{ℕ, zero, suc, _+_, _*_, _≤_, _<_, max, zero-le}
-use native.Mathlib.Nat.{not-suc-le-zero, le-of-suc-le-suc, le-trans, le-refl, mul-comm, mul-le-mul-left, zero-mul, one-mul, mul-assoc, mul-add, mul-le-mul-right, add-mul, add-zero, zero-add, add-le-add}
+use native.Mathlib.Nat.{not-suc-le-zero, le-of-suc-le-suc, le-trans, le-refl, mul-comm, mul-le-mul-left, zero-mul, one-mul, mul-assoc, mul-add}
+use native.Mathlib.Nat.{mul-le-mul-right, add-mul, add-zero, zero-add, add-le-add}
 use native.Mathlib.Numerals.{lt-of-le-of-ne}
 use native.Mathlib.Omega.{arith}
 use mathlib.Core.Path.{_≡_, refl, sym, ap, ap₂, _∙_}

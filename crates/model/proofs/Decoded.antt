@@ -14,8 +14,12 @@ use Rattle.laws.specs.Lists.{All}
 use Rattle.laws.proofs.Search.{decided}
 use Rattle.laws.proofs.Lists.{All-append, All-at, All-map}
 use Rattle.model.specs.Tree.{Array, Sort, out, inp, resource, Proc, Agent, agentAt, isFree, procAt}
-use Rattle.model.specs.Calculus.{Marker, Cell, unheld, holds, sameMarker, sameCell, calculus, Choices, Thread, Config, Attempt, Answer, refused, next, cutFrom, unfoldProc, bind, keep, unless, onAgents, after, stays, noThread, sentCells, markerOf, receiverLeaves, senderLeaves, stepped, attempt, start, attempts, run}
-use Rattle.model.specs.Numbers.{Entry, noEntry, decodeTo, decode, Listed, position, extend, numbers, listAfter, markersAfter, mapThread, mapAnswer, mapCell, decodeThread, CellFits, ThreadFits, Lent, Numbered, decodeLent, startLent, settle, afterLent, attemptsLent}
+use Rattle.model.specs.Calculus.{Marker, Cell, unheld, holds, sameMarker, sameCell, calculus, Choices, Thread, Config, Attempt, Answer, refused}
+use Rattle.model.specs.Calculus.{next, cutFrom, unfoldProc, bind, keep, unless, onAgents, after, stays, noThread, sentCells, markerOf}
+use Rattle.model.specs.Calculus.{receiverLeaves, senderLeaves, stepped, attempt, start, attempts, run}
+use Rattle.model.specs.Numbers.{Entry, noEntry, decodeTo, decode, Listed, position, extend, numbers, listAfter, markersAfter, mapThread, mapAnswer}
+use Rattle.model.specs.Numbers.{mapCell, decodeThread, CellFits, ThreadFits, Lent, Numbered, decodeLent, startLent, settle, afterLent}
+use Rattle.model.specs.Numbers.{attemptsLent}
 use Rattle.model.proofs.Markers.{same-eq, same-refl, decode-injective, extend-listed, extend-decode, extend-new, extend-place}
 use Rattle.model.proofs.Natural.{Agrees, attempt-map, start-map}
 use Rattle.model.proofs.Threads.{keep-all}

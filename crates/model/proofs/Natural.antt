@@ -7,7 +7,8 @@ use mathlib.Core.List.{List, [], _∷_, _++_, map}
 use mathlib.Core.Option.{Option, none, some}
 use lib.ListN.{length, getD, set, replicate, length-map, List·getD-map}
 use Rattle.model.specs.Tree.{Array, Sort, Proc, Agent, agentAt, procAt, isFree}
-use Rattle.model.specs.Calculus.{Notation, Choices, Thread, Config, Attempt, Answer, refused, next, cutFrom, unfoldProc, bind, keep, unless, onAgents, stays, noThread, cell, sentCells, markerOf, receiverLeaves, senderLeaves, stepped, attempt, start}
+use Rattle.model.specs.Calculus.{Notation, Choices, Thread, Config, Attempt, Answer, refused, next, cutFrom, unfoldProc, bind, keep, unless}
+use Rattle.model.specs.Calculus.{onAgents, stays, noThread, cell, sentCells, markerOf, receiverLeaves, senderLeaves, stepped, attempt, start}
 use Rattle.model.specs.Numbers.{mapThread, mapAnswer}
 
 -- ---- lists

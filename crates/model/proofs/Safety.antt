@@ -19,7 +19,9 @@ use Rattle.laws.proofs.Search.{decided, and-split, or-right}
 use Rattle.laws.proofs.Lists.{All-append, All-getD, All-map, getD-map, has-getD}
 use Rattle.model.specs.Tree.{Array, Sort, out, inp, resource, Proc, Agent, agentAt, procAt, isFree, freeBelow, receives, load}
 use Rattle.model.specs.Formed.{WellFormed}
-use Rattle.model.specs.Calculus.{Marker, Cell, unheld, holds, sameMarker, sameCell, calculus, Choices, Thread, Config, Attempt, unfoldProc, bind, keep, stays, noThread, sentCells, markerOf, receiverLeaves, senderLeaves, stepped, start, after, attempt, attempts, run}
+use Rattle.model.specs.Calculus.{Marker, Cell, unheld, holds, sameMarker, sameCell, calculus, Choices, Thread, Config, Attempt, unfoldProc, bind}
+use Rattle.model.specs.Calculus.{keep, stays, noThread, sentCells, markerOf, receiverLeaves, senderLeaves, stepped, start, after, attempt}
+use Rattle.model.specs.Calculus.{attempts, run}
 use Rattle.model.specs.Rules.{Table, Balance, balanceOf, Live, taken, Rules, ClaimsFit, rowBits, held, verdict}
 use Rattle.model.specs.Safe.{total, weighed, count, Flows, Safe}
 use Rattle.model.proofs.Tree.{Wf, AgentWf, wf-procAt, agent-tree, agent-below}

@@ -11,9 +11,14 @@ use lib.Dec.{eqb, leb, ltb}
 use lib.ListN.{length, getD}
 use borrow.Author.Tests.{ltb-true, ltb-false, leb-true, leb-false, eqb-true, lt-ltb, le-leb, eq-eqb, not-true, not-false}
 use Rattle.laws.specs.Search.{Found, clear, hit, test, andThen, first, every}
-use Rattle.laws.proofs.Search.{and-split, and-join, or-false, implies, implied, clear-hit, test-clear, clear-test, test-hit, andThen-split, andThen-join, andThen-hit, under-clear, clear-under, under-hit, first-clear, clear-first, first-hit, every-true, true-every, every-false, any-true, true-any}
+use Rattle.laws.proofs.Search.{and-split, and-join, or-false, implies, implied, clear-hit, test-clear, clear-test, test-hit, andThen-split, andThen-join}
+use Rattle.laws.proofs.Search.{andThen-hit, under-clear, clear-under, under-hit, first-clear, clear-first, first-hit, every-true, true-every}
+use Rattle.laws.proofs.Search.{every-false, any-true, true-any}
 use Rattle.model.specs.Tree.{Array, Agent, agentAt, receives, isNew}
-use Rattle.model.specs.Rules.{Table, Balance, rowBits, balanceOf, Within, within, Live, live, shareBit, fitBoth, Rule1At, rootLoad, Rule2At, Rule3At, taken, loadLeft, weightGone, Rule4At, claimWeight, Rule5At, PairAt, Pairs, Rule1, Rule2, Rule3, Rule4, Rule5, Rules, Broken, Verdict, held, at, onLive, pairs, check1, check2, arguments3, check3, balances4, check4, check5, verdict, Before, FirstPair, Fails3, Fails4, FirstBroken, broken1, broken2, broken3, broken4, broken5}
+use Rattle.model.specs.Rules.{Table, Balance, rowBits, balanceOf, Within, within, Live, live, shareBit, fitBoth, Rule1At, rootLoad, Rule2At}
+use Rattle.model.specs.Rules.{Rule3At, taken, loadLeft, weightGone, Rule4At, claimWeight, Rule5At, PairAt, Pairs, Rule1, Rule2, Rule3, Rule4}
+use Rattle.model.specs.Rules.{Rule5, Rules, Broken, Verdict, held, at, onLive, pairs, check1, check2, arguments3, check3, balances4, check4}
+use Rattle.model.specs.Rules.{check5, verdict, Before, FirstPair, Fails3, Fails4, FirstBroken, broken1, broken2, broken3, broken4, broken5}
 
 -- ---- rows and live pairs
 

@@ -35,6 +35,13 @@ pub struct Record {
     pub args: [u8; 8],
 }
 
+// A refusal that names no place.
+pub fn refused(number: u8) -> Check
+    ensures { λ r. ⌜ r ≡ Check.Refused record { number = number; place = 0 } ⌝ }
+{
+    Check::Refused(Refusal { number, place: 0 })
+}
+
 // A byte as a wider number.
 pub fn wide(x: u8) -> usize
     ensures { λ r. ⌜ (r ≡ x) × (r < 256) ⌝ }

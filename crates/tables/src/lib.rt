@@ -18,12 +18,6 @@ pub enum TableAnswer {
     Refused(Refusal),
 }
 
-fn refused(number: u8) -> Check
-    ensures { λ r. ⌜ r ≡ Check.Refused record { number = number; place = 0 } ⌝ }
-{
-    Check::Refused(Refusal { number, place: 0 })
-}
-
 // Refusals 20 and 21.
 fn check_numbers(file: &[u8], t: Trailer, table: &[u8], z: Sizes) -> Check
     requires { ⌜ (t .start + 16 * t .nodes ≤ length (now file)) × (t .start ≤ 1024) × (t .nodes ≤ 1024) ⌝ }
@@ -43,7 +37,7 @@ fn check_rows(file: &[u8], t: Trailer, table: &[u8], z: Sizes) -> Check
     ensures { λ r. ⌜ foundOf r ≡ from18 (now (file .entry)) t (now (table .entry)) z ⌝ }
 {
     if wire::u32_at(table, table.len() - 12) != t.sum {
-        return refused(18);
+        return records::refused(18);
     }
     if let Check::Refused(r) = flows::bad_row(file, t, table, z) {
         return Check::Refused(r);
@@ -73,10 +67,10 @@ fn check_parts(file: &[u8], t: Trailer, table: &[u8], z: Sizes) -> Check
 {
     let len = table.len();
     if !parts_fit(table, z) {
-        return refused(16);
+        return records::refused(16);
     }
     if wire::u32_at(table, len - 8) != wire::word_sum(table, (len - 8) / 4) {
-        return refused(17);
+        return records::refused(17);
     }
     check_rows(file, t, table, z)
 }
@@ -88,10 +82,10 @@ fn check_letters(file: &[u8], t: Trailer, table: &[u8], z: Sizes) -> Check
     ensures { λ r. ⌜ foundOf r ≡ from14 (now (file .entry)) t (now (table .entry)) z ⌝ }
 {
     if wire::u32_at(table, table.len() - 4) != 826493264 {
-        return refused(14);
+        return records::refused(14);
     }
     if !((z.balances <= 24) & (z.claims <= 256)) {
-        return refused(15);
+        return records::refused(15);
     }
     check_parts(file, t, table, z)
 }
@@ -103,7 +97,7 @@ pub fn check_table(file: &[u8], t: Trailer, table: &[u8]) -> Check
 {
     let len = table.len();
     if !((28 <= len) & (len <= 59516) & (len % 4 == 0)) {
-        return refused(13);
+        return records::refused(13);
     }
     check_letters(file, t, table, layout::read_sizes(t, table))
 }

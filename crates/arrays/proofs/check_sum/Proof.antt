@@ -47,7 +47,8 @@ check-records-requires c κs =
 
 returns-3 : tie.Need-returns-3
 returns-3 c =
-    holds 4 _ _ (not-false _ (c .before .before .before .before .if1 .left)) (holds 5 _ _ (eq-eqb _ _ (c .before .if2 .left ∙ c .before .before .before .word-sum .ensures)) (c .check-records .ensures))
+    holds 4 _ _ (not-false _ (c .before .before .before .before .if1 .left))
+    (holds 5 _ _ (eq-eqb _ _ (c .before .if2 .left ∙ c .before .before .before .word-sum .ensures)) (c .check-records .ensures))
 
 pub check-sum-spec : {M : Type 1} → statement M
 check-sum-spec =

@@ -35,13 +35,17 @@ returns-2 : tie.Need-returns-2
 returns-2 c =
     let s = now (c .before .before .before .before .before .before .args .file) in
     ap (λ x. answer (foundOf x) (c .before .before .before .read-trailer .result)) (sym (c .enum-told .given .1))
-    ∙ answered-by s (c .before .before .before .read-trailer .result) (c .before .before .check-letters .result) (not-false _ (c .before .before .before .before .if1 .left)) (c .before .before .before .read-trailer .ensures .0) (c .before .before .check-letters .ensures)
+    ∙ answered-by s (c .before .before .before .read-trailer .result) (c .before .before .check-letters .result)
+    (not-false _ (c .before .before .before .before .if1 .left)) (c .before .before .before .read-trailer .ensures .0)
+    (c .before .before .check-letters .ensures)
 
 returns-3 : tie.Need-returns-3
 returns-3 c =
     let s = now (c .before .before .before .before .before .before .before .args .file) in
     ap (λ x. answer (foundOf x) (c .before .before .before .before .read-trailer .result)) (sym (c .before .r .given .1))
-    ∙ answered-by s (c .before .before .before .before .read-trailer .result) (c .before .before .before .check-letters .result) (not-false _ (c .before .before .before .before .before .if1 .left)) (c .before .before .before .before .read-trailer .ensures .0) (c .before .before .before .check-letters .ensures)
+    ∙ answered-by s (c .before .before .before .before .read-trailer .result) (c .before .before .before .check-letters .result)
+    (not-false _ (c .before .before .before .before .before .if1 .left)) (c .before .before .before .before .read-trailer .ensures .0)
+    (c .before .before .before .check-letters .ensures)
 
 pub read-array-spec : {M : Type 1} → statement M
 read-array-spec =

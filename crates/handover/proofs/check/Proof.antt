@@ -46,15 +46,21 @@ read-sizes-requires c κs =
     let s = now (c .before .before .before .before .before .before .before .before .before .args .table) in
     let t = c .before .before .before .before .t .given .0 .0 in
     let e : readArray f ≡ A.Read t = sym (c .before .before .before .before .before .before .read-array .ensures) ∙ c .before .before .before .before .t .given .1 in
-    length-fits s (test-clear (lengthFits s) _ (andThen-split _ _ (passes (c .before .before .check-table .result) (c .before .before .check-table .ensures) (c .enum-told .given .1)) .0))
+    length-fits s (test-clear (lengthFits s) _
+    (andThen-split _ _ (passes (c .before .before .check-table .result) (c .before .before .check-table .ensures) (c .enum-told .given .1)) .0))
 
 judge-requires : tie.Need-judge-requires
 judge-requires c κs =
     let f = now (c .before .before .before .before .before .before .before .before .before .before .args .array) in
     let s = now (c .before .before .before .before .before .before .before .before .before .before .args .table) in
     let t = c .before .before .before .before .before .t .given .0 .0 in
-    let e : readArray f ≡ A.Read t = sym (c .before .before .before .before .before .before .before .read-array .ensures) ∙ c .before .before .before .before .before .t .given .1 in
-    (read-is f t e, subst (IsTable f t s) (sym (c .read-sizes .ensures)) (passed-table f t s (passes (c .before .before .before .check-table .result) (c .before .before .before .check-table .ensures) (c .before .enum-told .given .1))))
+    let e : readArray f ≡ A.Read t = sym (c .before .before .before .before .before .before .before .read-array .ensures)
+    ∙ c .before .before .before .before .before .t .given .1 in (
+      read-is f t e,
+      subst (IsTable f t s) (sym (c .read-sizes .ensures))
+          (passed-table f t s (passes (c .before .before .before .check-table .result) (c .before .before .before .check-table .ensures)
+          (c .before .enum-told .given .1))),
+    )
 
 verdict-of-requires : tie.Need-verdict-of-requires
 verdict-of-requires c κs = search needs
@@ -70,7 +76,8 @@ returns-2 c =
     let f = now (c .before .before .before .before .before .before .before .before .before .before .args .array) in
     let s = now (c .before .before .before .before .before .before .before .before .before .before .args .table) in
     let t = c .before .before .before .before .before .t .given .0 .0 in
-    let e : readArray f ≡ A.Read t = sym (c .before .before .before .before .before .before .before .read-array .ensures) ∙ c .before .before .before .before .before .t .given .1 in
+    let e : readArray f ≡ A.Read t = sym (c .before .before .before .before .before .before .before .read-array .ensures)
+    ∙ c .before .before .before .before .before .t .given .1 in
     table-refused f s t (c .before .r2 .given .0 .0) e (ap foundOf (sym (c .before .r2 .given .1)) ∙ c .before .before .before .check-table .ensures)
 
 returns-3 : tie.Need-returns-3
@@ -78,8 +85,12 @@ returns-3 c =
     let f = now (c .before .before .before .before .before .before .before .before .before .before .before .before .args .array) in
     let s = now (c .before .before .before .before .before .before .before .before .before .before .before .before .args .table) in
     let t = c .before .before .before .before .before .before .before .t .given .0 .0 in
-    let e : readArray f ≡ A.Read t = sym (c .before .before .before .before .before .before .before .before .before .read-array .ensures) ∙ c .before .before .before .before .before .before .before .t .given .1 in
-    subst (Judges f s) (sym (c .verdict-of .ensures)) (passed-judges f s t (c .before .before .read-sizes .result) (c .before .judge .result) e (passes (c .before .before .before .before .before .check-table .result) (c .before .before .before .before .before .check-table .ensures) (c .before .before .before .enum-told .given .1)) (c .before .before .read-sizes .ensures) (c .before .judge .ensures))
+    let e : readArray f ≡ A.Read t = sym (c .before .before .before .before .before .before .before .before .before .read-array .ensures)
+    ∙ c .before .before .before .before .before .before .before .t .given .1 in
+    subst (Judges f s) (sym (c .verdict-of .ensures))
+    (passed-judges f s t (c .before .before .read-sizes .result) (c .before .judge .result) e
+    (passes (c .before .before .before .before .before .check-table .result) (c .before .before .before .before .before .check-table .ensures)
+    (c .before .before .before .enum-told .given .1)) (c .before .before .read-sizes .ensures) (c .before .judge .ensures))
 
 pub check-spec : {M : Type 1} → statement M
 check-spec =

@@ -98,7 +98,8 @@ shared-slice-read-t44 c = search needs
 
 returns : tie.Need-returns
 returns c =
-    let args = bytes-take 8 8 (c .before .before .before .before .before .before .before .before .before .before .before .before .before .before .before .before .before .before .args .at) (now (c .before .before .before .before .before .before .before .before .before .before .before .before .before .before .before .before .before .before .args .s)) (omega arith) in
+    let args = bytes-take 8 8
+    (c .before .before .before .before .before .before .before .before .before .before .before .before .before .before .before .before .before .before .args .at) (now (c .before .before .before .before .before .before .before .before .before .before .before .before .before .before .before .before .before .before .args .s)) (omega arith) in
     simp (
       c .before .before .before .before .before .before .before .before .before .before .before .before .before .before .before .wide .ensures .0,
       c .before .before .before .before .before .before .before .before .before .before .before .before .before .wide2 .ensures .0,

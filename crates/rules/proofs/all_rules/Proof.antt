@@ -28,7 +28,8 @@ is-held-requires-2 c κs = search needs
 returns-2 : tie.Need-returns-2
 unfolding verdict
 returns-2 c =
-    goes-on _ _ (c .before .before .before .before .before .rule1 .result) (c .before .before .before .before .before .rule1 .ensures) (sym (c .before .before .before .before .is-held .ensures) ∙ not-false _ (c .before .before .before .if1 .left))
+    goes-on _ _ (c .before .before .before .before .before .rule1 .result) (c .before .before .before .before .before .rule1 .ensures)
+    (sym (c .before .before .before .before .is-held .ensures) ∙ not-false _ (c .before .before .before .if1 .left))
     (ends _ _ (c .before .before .rule2 .result) (c .before .before .rule2 .ensures) (sym (c .before .is-held2 .ensures) ∙ not-true _ (c .if2 .taken)))
 
 later-rules-requires : tie.Need-later-rules-requires
@@ -37,8 +38,10 @@ later-rules-requires c κs = search needs
 returns-3 : tie.Need-returns-3
 unfolding verdict
 returns-3 c =
-    goes-on _ _ (c .before .before .before .before .before .before .rule1 .result) (c .before .before .before .before .before .before .rule1 .ensures) (sym (c .before .before .before .before .before .is-held .ensures) ∙ not-false _ (c .before .before .before .before .if1 .left))
-    (goes-on _ _ (c .before .before .before .rule2 .result) (c .before .before .before .rule2 .ensures) (sym (c .before .before .is-held2 .ensures) ∙ not-false _ (c .before .if2 .left)) (c .later-rules .ensures))
+    goes-on _ _ (c .before .before .before .before .before .before .rule1 .result) (c .before .before .before .before .before .before .rule1 .ensures)
+    (sym (c .before .before .before .before .before .is-held .ensures) ∙ not-false _ (c .before .before .before .before .if1 .left))
+    (goes-on _ _ (c .before .before .before .rule2 .result) (c .before .before .before .rule2 .ensures)
+    (sym (c .before .before .is-held2 .ensures) ∙ not-false _ (c .before .if2 .left)) (c .later-rules .ensures))
 
 pub all-rules-spec : {M : Type 1} → statement M
 all-rules-spec =

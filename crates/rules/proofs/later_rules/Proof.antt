@@ -25,7 +25,8 @@ is-held-requires-2 c κs = search needs
 
 returns-2 : tie.Need-returns-2
 returns-2 c =
-    goes-on _ _ (c .before .before .before .before .before .rule3 .result) (c .before .before .before .before .before .rule3 .ensures) (sym (c .before .before .before .before .is-held .ensures) ∙ not-false _ (c .before .before .before .if1 .left))
+    goes-on _ _ (c .before .before .before .before .before .rule3 .result) (c .before .before .before .before .before .rule3 .ensures)
+    (sym (c .before .before .before .before .is-held .ensures) ∙ not-false _ (c .before .before .before .if1 .left))
     (ends _ _ (c .before .before .rule4 .result) (c .before .before .rule4 .ensures) (sym (c .before .is-held2 .ensures) ∙ not-true _ (c .if2 .taken)))
 
 rule5-requires : tie.Need-rule5-requires
@@ -33,8 +34,10 @@ rule5-requires c κs = search needs
 
 returns-3 : tie.Need-returns-3
 returns-3 c =
-    goes-on _ _ (c .before .before .before .before .before .before .rule3 .result) (c .before .before .before .before .before .before .rule3 .ensures) (sym (c .before .before .before .before .before .is-held .ensures) ∙ not-false _ (c .before .before .before .before .if1 .left))
-    (goes-on _ _ (c .before .before .before .rule4 .result) (c .before .before .before .rule4 .ensures) (sym (c .before .before .is-held2 .ensures) ∙ not-false _ (c .before .if2 .left)) (c .rule5 .ensures))
+    goes-on _ _ (c .before .before .before .before .before .before .rule3 .result) (c .before .before .before .before .before .before .rule3 .ensures)
+    (sym (c .before .before .before .before .before .is-held .ensures) ∙ not-false _ (c .before .before .before .before .if1 .left))
+    (goes-on _ _ (c .before .before .before .rule4 .result) (c .before .before .before .rule4 .ensures)
+    (sym (c .before .before .is-held2 .ensures) ∙ not-false _ (c .before .if2 .left)) (c .rule5 .ensures))
 
 pub later-rules-spec : {M : Type 1} → statement M
 later-rules-spec =

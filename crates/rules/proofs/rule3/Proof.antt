@@ -32,7 +32,8 @@ returns c =
 returns-2 : tie.Need-returns-2
 returns-2 c =
     let x = c .before .before .before .before .before .before .before .before .before .args in
-    place-3 _ _ _ ∙ ap (pairSays 3) (sym (c .before .p .given .1)) ∙ c .before .before .before .first-pair .ensures .0 ∙ pairs-3 (arrayOf (now (x .file)) (x .t)) (tableOf (now (x .table)) (x .z))
+    place-3 _ _ _ ∙ ap (pairSays 3) (sym (c .before .p .given .1)) ∙ c .before .before .before .first-pair .ensures .0 ∙ pairs-3
+    (arrayOf (now (x .file)) (x .t)) (tableOf (now (x .table)) (x .z))
 
 pub rule3-spec : {M : Type 1} → statement M
 rule3-spec =

@@ -37,7 +37,8 @@ refused-requires-2 c κs = search needs
 returns-2 : tie.Need-returns-2
 returns-2 c =
     holds 16 _ _ (sym (c .before .before .before .before .before .parts-fit .ensures) ∙ not-false _ (c .before .before .before .before .if1 .left))
-    (fails 17 _ _ (c .refused2 .result) (c .refused2 .ensures) (ne-eqb _ _ (λ e. c .before .if2 .taken (c .before .before .before .u32-at .ensures ∙ e ∙ sym (c .before .before .word-sum .ensures)))))
+    (fails 17 _ _ (c .refused2 .result) (c .refused2 .ensures)
+    (ne-eqb _ _ (λ e. c .before .if2 .taken (c .before .before .before .u32-at .ensures ∙ e ∙ sym (c .before .before .word-sum .ensures)))))
 
 check-rows-requires : tie.Need-check-rows-requires
 check-rows-requires c κs =

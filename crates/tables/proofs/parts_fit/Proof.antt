@@ -46,22 +46,31 @@ mul-result-2 c = search needs
 add-result : tie.Need-add-result
 add-result c =
     let z = c .before .before .before .before .before .before .before .before .before .args .z in
-    let small = balances-small z (c .before .before .before .before .before .before .before .before .before .pre .0 .0) (c .before .before .before .before .before .before .before .before .before .pre .0 .2) in
-    let e : c .before .before .before .before .before .before .before .claims-at .result ≡ 32 * z .names + z .balances * balanceSize z + 8 * 0 = c .before .before .before .before .before .before .before .claims-at .ensures in
+    let small = balances-small z (c .before .before .before .before .before .before .before .before .before .pre .0 .0)
+    (c .before .before .before .before .before .before .before .before .before .pre .0 .2) in
+    let e : c .before .before .before .before .before .before .before .claims-at .result ≡ 32 * z .names + z .balances * balanceSize z + 8 * 0 =
+    c .before .before .before .before .before .before .before .claims-at .ensures in
     record { fits = omega arith }
 
 add-result-2 : tie.Need-add-result-2
 add-result-2 c =
     let z = c .before .before .before .before .before .before .before .before .before .args .z in
-    let small = balances-small z (c .before .before .before .before .before .before .before .before .before .pre .0 .0) (c .before .before .before .before .before .before .before .before .before .pre .0 .2) in
-    let e : c .before .before .before .before .before .before .before .claims-at .result ≡ 32 * z .names + z .balances * balanceSize z + 8 * 0 = c .before .before .before .before .before .before .before .claims-at .ensures in
+    let small = balances-small z (c .before .before .before .before .before .before .before .before .before .pre .0 .0)
+    (c .before .before .before .before .before .before .before .before .before .pre .0 .2) in
+    let e : c .before .before .before .before .before .before .before .claims-at .result ≡ 32 * z .names + z .balances * balanceSize z + 8 * 0 =
+    c .before .before .before .before .before .before .before .claims-at .ensures in
     record { fits = omega arith }
 
 returns : tie.Need-returns
 returns c =
     let x = c .before .before .before .before .before .before .before .before .before .args in
-    parts-tests (now (x .table)) (x .z) (c .before .before .before .before .before .before .u32-at .result) (c .before .before .before .before .wide .result) (c .before .wide2 .result) (c .before .before .before .before .before .before .before .claims-at .result)
-    (c .before .before .before .before .before .before .u32-at .ensures) (c .before .before .before .before .wide .ensures .0 ∙ c .before .before .before .before .before .u32-at2 .ensures) (c .before .wide2 .ensures .0 ∙ c .before .before .u32-at3 .ensures) (c .before .before .before .before .before .before .before .claims-at .ensures)
+    parts-tests (now (x .table)) (x .z) (c .before .before .before .before .before .before .u32-at .result)
+    (c .before .before .before .before .wide .result) (c .before .wide2 .result)
+    (c .before .before .before .before .before .before .before .claims-at .result)
+    (c .before .before .before .before .before .before .u32-at .ensures)
+    (c .before .before .before .before .wide .ensures .0 ∙ c .before .before .before .before .before .u32-at2 .ensures)
+    (c .before .wide2 .ensures .0 ∙ c .before .before .u32-at3 .ensures)
+    (c .before .before .before .before .before .before .before .claims-at .ensures)
 
 pub parts-fit-spec : {M : Type 1} → statement M
 parts-fit-spec =

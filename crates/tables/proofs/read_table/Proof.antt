@@ -44,7 +44,8 @@ read-sizes-requires : tie.Need-read-sizes-requires
 read-sizes-requires c κs =
     let f = now (c .before .before .before .before .before .before .before .before .before .args .array) in
     let s = now (c .before .before .before .before .before .before .before .before .before .args .table) in
-    length-fits s (test-clear (lengthFits s) _ (andThen-split _ _ (passes (c .before .before .check-table .result) (c .before .before .check-table .ensures) (c .enum-told .given .1)) .0))
+    length-fits s (test-clear (lengthFits s) _
+    (andThen-split _ _ (passes (c .before .before .check-table .result) (c .before .before .check-table .ensures) (c .enum-told .given .1)) .0))
 
 returns : tie.Need-returns
 returns c =
@@ -58,7 +59,9 @@ returns-2 c =
     let s = now (c .before .before .before .before .before .before .before .before .before .before .args .table) in
     let t = c .before .before .before .before .before .t .given .0 .0 in
     ap (λ x. answer (foundOf x) (sizesOf t s)) (sym (c .before .r2 .given .1))
-    ∙ array-read f s t (foundOf (c .before .before .before .check-table .result)) (sizesOf t s) (sym (c .before .before .before .before .before .before .before .read-array .ensures) ∙ c .before .before .before .before .before .t .given .1) (c .before .before .before .check-table .ensures) refl
+    ∙ array-read f s t (foundOf (c .before .before .before .check-table .result)) (sizesOf t s)
+    (sym (c .before .before .before .before .before .before .before .read-array .ensures) ∙ c .before .before .before .before .before .t .given .1)
+    (c .before .before .before .check-table .ensures) refl
 
 returns-3 : tie.Need-returns-3
 returns-3 c =
@@ -67,7 +70,9 @@ returns-3 c =
     let t = c .before .before .before .before .before .t .given .0 .0 in
     let z = c .read-sizes .result in
     ap (λ x. answer (foundOf x) z) (sym (c .before .enum-told .given .1))
-    ∙ array-read f s t (foundOf (c .before .before .before .check-table .result)) z (sym (c .before .before .before .before .before .before .before .read-array .ensures) ∙ c .before .before .before .before .before .t .given .1) (c .before .before .before .check-table .ensures) (c .read-sizes .ensures)
+    ∙ array-read f s t (foundOf (c .before .before .before .check-table .result)) z
+    (sym (c .before .before .before .before .before .before .before .read-array .ensures) ∙ c .before .before .before .before .before .t .given .1)
+    (c .before .before .before .check-table .ensures) (c .read-sizes .ensures)
 
 pub read-table-spec : {M : Type 1} → statement M
 read-table-spec =
