@@ -7,7 +7,7 @@
 //   check        specs/Front: refusals 1 to 21, the first broken rule and its place, or held; held exactly when the five rules hold (demand 2),
 //                and then demand 3
 //
-// The deepest call, `check`, takes about 150 KiB of stack, for the checker's own lists.
+// The deepest call, `check`, takes about 240 KiB of stack, for the checker's own lists and their copies.
 ghost use mathlib.Core.Path.{_≡_};
 ghost use Rattle.arrays.specs.File.{readArray, remarkOf};
 ghost use Rattle.tables.specs.Read.{readTable};
