@@ -149,7 +149,7 @@ module _ (a : Array) (es : List Entry) (ok : Listed es) (c : Nconf) (fits : All 
 
   -- the entries after the attempt, by the receiver's agent
   pub after-kept : Kept es ds
-  unfolding markersAfter
+  unfolding markersAfter numbers
   after-kept = go (agentAt a (R .agent))
     where
       go : (x : Option Agent) → Kept es (elim x [ none ↦ es | some p ↦ listAfter es (p .sort) R S ])
@@ -157,8 +157,8 @@ module _ (a : Array) (es : List Entry) (ok : Listed es) (c : Nconf) (fits : All 
       go (some p) = kept-after es ok R S (R-fits .0) (S-fits .0) (p .sort)
 
   pub after-is : (p : Agent) → agentAt a (R .agent) ≡ some p → ds ≡ listAfter es (p .sort) R S
-  unfolding markersAfter
-  after-is p e = rw (e, markersAfter)
+  unfolding markersAfter numbers
+  after-is p e = ap (λ x. elim x [ none ↦ es | some p ↦ listAfter es (p .sort) R S ]) e
 
   wider : (t : Nth) (x : ℕ) → ThreadFits (length es) t → CellFits (length ds) (getD (t .env) x unheld)
   wider t x h = cell-fits (length es) (length ds) (getD (t .env) x unheld) (after-kept .longer) (All-at (CellFits (length es)) (t .env) x unheld tt (h .1))

@@ -3,6 +3,7 @@ pub mod Nodes
 pub mod Formed
 pub mod Calculus
 pub mod Numbers
+pub mod Memory
 pub mod Rules
 pub mod Safe
 pub mod Cases

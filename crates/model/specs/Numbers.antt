@@ -64,11 +64,15 @@ listAfter es out r s = es
 listAfter es inp r s = es
 listAfter es resource r s = extend es record { resource = r .agent; out = s .agent; left = r .marker; right = s .marker }
 
+-- past the last thread
+abbrev pub nobody : {C : Type 0} → Thread ℕ C
+nobody = record { agent = 0; marker = 0; env = [] }
+
 -- the entries after an attempt that is not refused
-unfoldable pub markersAfter : Array → List Entry → Config ℕ (Cell ℕ) → Attempt → List Entry
+unfoldable pub markersAfter : {C : Type 0} → Array → List Entry → Config ℕ C → Attempt → List Entry
 markersAfter a es c u =
-    let r = getD c (u .receiver) (noThread (numbers es)) in
-    let s = getD c (u .sender) (noThread (numbers es)) in
+    let r = getD c (u .receiver) nobody in
+    let s = getD c (u .sender) nobody in
     elim (agentAt a (r .agent)) [ none ↦ es | some p ↦ listAfter es (p .sort) r s ]
 
 -- ---- a configuration of numbers, and the configuration of markers that it stands for

@@ -1,0 +1,65 @@
+// The free names of all nodes, worked out once, from the last node to the first, into a table that the caller lends: a row of marks
+// for each node. Promises that each entry is that of the process tree. Depends on arrays, scopes, records, marks, model and laws.
+ghost use mathlib.Core.Path.{_≡_};
+ghost use mathlib.Core.Bool.{true, not, _&&_, _||_};
+ghost use Prim.Native.Nat.{ℕ, _+_, _*_, _<_, _≤_};
+ghost use lib.ListN.{length};
+ghost use Rattle.laws.specs.Lists.{has};
+ghost use Rattle.model.specs.Formed.{uses};
+ghost use Rattle.records.specs.Record.{nodeOf, arrayOf};
+ghost use Rattle.marks.specs.Marks.{marked};
+ghost use Rattle.arrays.specs.File.{IsRead};
+ghost use Rattle.frees.specs.Frees.{FreeFrom, AllFree};
+use records::Record;
+use records::Trailer;
+
+// The names that a record uses, marked: its channel, and what an out sends.
+fn used_by(r: Record) -> [u64; 4]
+    requires { ⌜ r .name < 256 ⌝ }
+    ensures { λ row. ⌜ ((v : ℕ) → v < 256 → marked row 0 v ≡ has (uses (nodeOf r)) v) ⌝ }
+{
+    let mut row = [0u64; 4];
+    marks::mark_if(&mut row, 4 <= r.kind, r.name);
+    scopes::mark_args(&mut row, r.kind == 4, r);
+    row
+}
+
+// Word w of the names free in the children of a node whose record is r.
+fn below(table: &[u64], r: Record, w: usize) -> u64
+{
+    if r.kind == 0 {
+        return 0;
+    }
+    let left = table[4 * r.left + w];
+    if (r.kind == 2) | (r.kind == 3) {
+        return left | table[4 * r.right + w];
+    }
+    left
+}
+
+// The row of node i, whose record is r, from the rows of its children: what it uses, and what is free below and not bound by it.
+fn fill_row(table: &mut [u64], i: usize, r: Record)
+{
+    let used = used_by(r);
+    let bound = scopes::bound_by(r);
+    let mut w: usize = 0;
+    while w < 4 {
+        let inside = below(table, r, w);
+        let own = inside & bound[w];
+        table[4 * i + w] = used[w] | (inside ^ own);
+        w += 1;
+    }
+}
+
+// The free names of all nodes.
+pub fn fill_frees(table: &mut [u64], file: &[u8], t: Trailer)
+    requires { ⌜ IsRead (now file) t × (length (now table) ≡ 4096) ⌝ }
+    ensures { λ _. ⌜ AllFree (now (table .exit)) (arrayOf (now (file .entry)) t) ⌝ }
+{
+    let mut i = t.nodes;
+    while 0 < i {
+        i -= 1;
+        let r = records::record_at(file, t.start + 16 * i);
+        fill_row(table, i, r);
+    }
+}

@@ -1,0 +1,23 @@
+-- An entry by value, and what the list of entries must be (refusal 23).
+use Prim.Native.Nat.{ℕ, _+_, _*_, _%_}
+use mathlib.Core.Bool.{Bool, _&&_}
+use mathlib.Core.List.{List}
+use lib.ListN.{getD}
+use Rattle.laws.specs.Search.{every}
+use Rattle.model.specs.Tree.{Array}
+use Rattle.model.specs.Numbers as N
+use Rattle.model.specs.Numbers.{noEntry}
+use Rattle.model.specs.Memory.{entriesIn, entryFormed, unlike}
+use Rattle.markers.specs.declared.Entry.{Entry}
+
+-- what an entry stands for
+abbrev pub entryOf : Entry → N.Entry
+entryOf e = record { resource = e .resource; out = e .out; left = e .left; right = e .right }
+
+-- the place of an entry's mark among 262,144: equal entries have equal places
+unfoldable pub slotOf : N.Entry → ℕ
+slotOf e = (40503 * e .resource + 30011 * e .out + 25117 * e .left + 17389 * e .right) % 262144
+
+-- "a marker entry has a resource, an out and two numbers below its own; no two entries are equal"
+unfoldable pub entriesFormed : Array → List N.Entry → ℕ → Bool
+entriesFormed a es k = every k (λ i. entryFormed a i (getD es i noEntry)) && every k (unlike es)

@@ -1,0 +1,141 @@
+// The marker list: entries of four numbers, found, appended and checked (the part of refusal 23 that is about markers).
+// Promises equations with the model's entries. Depends on arrays, records, marks, model and laws.
+// A check takes 32,768 bytes of stack for one mark per place of an entry: only an entry whose place is marked already is searched
+// for among the earlier ones.
+ghost use mathlib.Core.Path.{_≡_};
+ghost use mathlib.Core.Bool.{Bool, _&&_};
+ghost use Prim.Native.Nat.{ℕ, _+_, _*_, _<_, _≤_};
+ghost use lib.ListN.{length, getD, drop};
+ghost use lib.Dec.{leb};
+ghost use Rattle.laws.specs.Search.{every};
+ghost use Rattle.laws.specs.Lists.{put};
+ghost use Rattle.model.specs.Tree.{nodeAt};
+ghost use Rattle.model.specs.Numbers.{noEntry, sameEntry, position};
+ghost use Rattle.model.specs.Memory.{entryIn, entriesIn, entryNumbers, entryFormed, unlike, isResource, isOut};
+ghost use Rattle.records.specs.Record.{arrayOf};
+ghost use Rattle.arrays.specs.File.{IsRead};
+ghost use Rattle.markers.specs.Markers.{entryOf, slotOf, entriesFormed};
+use records::Trailer;
+
+// A marker entry: resource, out, and the numbers of their markers.
+pub struct Entry {
+    pub resource: u16,
+    pub out: u16,
+    pub left: u16,
+    pub right: u16,
+}
+
+// Entry k.
+pub fn entry_at(markers: &[u16], k: usize) -> Entry
+    requires { ⌜ 4 * k + 3 < length (now markers) ⌝ }
+    ensures { λ e. ⌜ entryOf e ≡ entryIn (drop (4 * k) (now (markers .entry))) ⌝ }
+{
+    Entry {
+        resource: markers[4 * k],
+        out: markers[4 * k + 1],
+        left: markers[4 * k + 2],
+        right: markers[4 * k + 3],
+    }
+}
+
+fn same(d: Entry, e: Entry) -> bool
+    ensures { λ b. ⌜ b ≡ sameEntry (entryOf d) (entryOf e) ⌝ }
+{
+    (d.resource == e.resource) & (d.out == e.out) & (d.left == e.left) & (d.right == e.right)
+}
+
+// Where an entry stands first among the first `count`, or `count`.
+pub fn find_entry(markers: &[u16], count: usize, e: Entry) -> usize
+    requires { ⌜ 4 * count ≤ length (now markers) ⌝ }
+    ensures { λ k. ⌜ k ≡ position (entryOf e) (entriesIn count (now (markers .entry))) ⌝ }
+{
+    let mut k: usize = 0;
+    while k < count {
+        if same(entry_at(markers, k), e) {
+            return k;
+        }
+        k += 1;
+    }
+    count
+}
+
+// Writes entry `count`.
+pub fn add_entry(markers: &mut [u16], count: usize, e: Entry)
+    requires { ⌜ 4 * count + 3 < length (now markers) ⌝ }
+    ensures { λ _. ⌜ now (markers .exit) ≡ put (4 * count) (entryNumbers (entryOf e)) (now (markers .entry)) ⌝ }
+{
+    markers[4 * count] = e.resource;
+    markers[4 * count + 1] = e.out;
+    markers[4 * count + 2] = e.left;
+    markers[4 * count + 3] = e.right;
+}
+
+fn wide(x: u16) -> usize
+    ensures { λ r. ⌜ (r ≡ x) × (r < 65536) ⌝ }
+{
+    x as usize
+}
+
+// The place of an entry's mark.
+fn slot_of(e: Entry) -> usize
+    ensures { λ r. ⌜ (r ≡ slotOf (entryOf e)) × (r < 262144) ⌝ }
+{
+    (40503 * wide(e.resource) + 30011 * wide(e.out) + 25117 * wide(e.left) + 17389 * wide(e.right))
+        % 262144
+}
+
+// Node i has this kind, 4 for an out and 6 for a resource.
+fn has_kind(file: &[u8], t: Trailer, i: usize, kind: usize) -> bool
+{
+    if t.nodes <= i {
+        return false;
+    }
+    records::record_at(file, t.start + 16 * i).kind == kind
+}
+
+// Entry k has a resource, an out and two numbers below its own.
+fn entry_formed(file: &[u8], t: Trailer, k: usize, e: Entry) -> bool
+    requires { ⌜ IsRead (now file) t ⌝ }
+    ensures { λ b. ⌜ b ≡ entryFormed (arrayOf (now (file .entry)) t) k (entryOf e) ⌝ }
+{
+    has_kind(file, t, wide(e.resource), 6)
+        & has_kind(file, t, wide(e.out), 4)
+        & (wide(e.left) <= k)
+        & (wide(e.right) <= k)
+}
+
+// No two of the first `count` entries are equal.
+fn entries_unlike(markers: &[u16], count: usize) -> bool
+    requires { ⌜ 4 * count ≤ length (now markers) ⌝ }
+    ensures { λ b. ⌜ b ≡ every count (unlike (entriesIn count (now (markers .entry)))) ⌝ }
+{
+    let mut seen = [0u64; 4096];
+    let mut k: usize = 0;
+    while k < count {
+        let e = entry_at(markers, k);
+        let slot = slot_of(e);
+        if (seen[slot / 64] >> (slot % 64)) % 2 == 1 {
+            if find_entry(markers, k, e) < k {
+                return false;
+            }
+        }
+        seen[slot / 64] = seen[slot / 64] | (1 << (slot % 64));
+        k += 1;
+    }
+    true
+}
+
+// The first `count` entries are well formed.
+pub fn entries_formed(file: &[u8], t: Trailer, markers: &[u16], count: usize) -> bool
+    requires { ⌜ IsRead (now file) t × (4 * count ≤ length (now markers)) ⌝ }
+    ensures { λ b. ⌜ b ≡ entriesFormed (arrayOf (now (file .entry)) t) (entriesIn count (now (markers .entry))) count ⌝ }
+{
+    let mut k: usize = 0;
+    while k < count {
+        if !entry_formed(file, t, k, entry_at(markers, k)) {
+            return false;
+        }
+        k += 1;
+    }
+    entries_unlike(markers, count)
+}

@@ -1,0 +1,224 @@
+-- Lent memory: threads as words, markers as entries of four numbers; refusals 22 and 23; start, step and walk on such lists, with
+-- the limits of 28 and 29 (01, "Configurations and steps").
+use Prim.Native.Nat.{ℕ, zero, suc, _+_, _*_, _-_, _/_, _%_, min}
+use mathlib.Core.Bool.{Bool, true, false, cond, not, _&&_}
+use mathlib.Core.List.{List, [], _∷_, _++_}
+use lib.Dec.{eqb, ltb, leb}
+use lib.ListN.{length, getD, take, drop}
+use Rattle.laws.specs.Search.{Found, clear, hit, test, first, every, any}
+use Rattle.laws.specs.Lists.{put}
+use Rattle.model.specs.Tree.{Array, Sort, out, inp, resource, Node, stop, new, par, choice, agent, nodeAt, isAgent, isNew, isFree, procAt}
+use Rattle.model.specs.Formed.{Refusal, refuse}
+use Rattle.model.specs.Calculus.{Notation, Choices, Thread, Config, Attempt, Answer, refused, next, attempt, start}
+use Rattle.model.specs.Numbers.{Entry, noEntry, sameEntry, position, nobody, markersAfter}
+
+-- ---- words
+
+-- "per name 0 if not free, else 1 + 65,536 × new + marker number"
+abbrev pub opening : ℕ → ℕ → ℕ
+opening o m = 1 + 65536 * o + m
+
+-- the new and the marker number of such a word
+abbrev pub newIn : ℕ → ℕ
+newIn x = (x - 1) / 65536
+
+abbrev pub markerIn : ℕ → ℕ
+markerIn x = (x - 1) % 65536
+
+-- markers by number and cells by word, as the lists hold them
+unfoldable pub words : List Entry → Notation ℕ ℕ
+words es = record {
+  empty = 0;
+  node = λ r o m n. suc (position record { resource = r; out = o; left = m; right = n } es);
+  unheld = 0;
+  holds = opening;
+  same = λ x y. not (eqb x 0) && eqb x y;
+}
+
+-- "a thread takes 2 + N words of 32 bits: node, marker number, then per name"
+unfoldable pub threadIn : ℕ → List ℕ → Thread ℕ ℕ
+threadIn n l = record { agent = getD l 0 0; marker = getD l 1 0; env = take n (drop 2 l) }
+
+-- the first k threads of a list
+unfoldable pub threadsIn : ℕ → ℕ → List ℕ → Config ℕ ℕ
+threadsIn n zero l = []
+threadsIn n (suc k) l = threadIn n l ∷ threadsIn n k (drop (2 + n) l)
+
+abbrev pub threadWords : Thread ℕ ℕ → List ℕ
+threadWords t = t .agent ∷ t .marker ∷ t .env
+
+unfoldable pub wordsOf : Config ℕ ℕ → List ℕ
+wordsOf [] = []
+wordsOf (t ∷ c) = threadWords t ++ wordsOf c
+
+-- "marker i takes four 16-bit numbers at entry i - 1"
+unfoldable pub entryIn : List ℕ → Entry
+entryIn l = record { resource = getD l 0 0; out = getD l 1 0; left = getD l 2 0; right = getD l 3 0 }
+
+-- the first k entries of a list
+unfoldable pub entriesIn : ℕ → List ℕ → List Entry
+entriesIn zero l = []
+entriesIn (suc k) l = entryIn l ∷ entriesIn k (drop 4 l)
+
+abbrev pub entryNumbers : Entry → List ℕ
+entryNumbers e = e .resource ∷ e .out ∷ e .left ∷ e .right ∷ []
+
+unfoldable pub numbersOf : List Entry → List ℕ
+numbersOf [] = []
+numbersOf (e ∷ es) = entryNumbers e ++ numbersOf es
+
+-- ---- lent memory: the two lists, with how many threads and markers are in use
+
+pub record Memory : Type 0 where
+  pub threads : List ℕ
+  pub threadCount : ℕ
+  pub markers : List ℕ
+  pub markerCount : ℕ
+
+abbrev pub configOf : Array → Memory → Config ℕ ℕ
+configOf a m = threadsIn (a .names) (m .threadCount) (m .threads)
+
+abbrev pub entriesOf : Memory → List Entry
+entriesOf m = entriesIn (m .markerCount) (m .markers)
+
+-- "At most 256 threads and 4,096 markers fit, fewer if the lists are shorter."
+abbrev pub threadRoom : ℕ → List ℕ → ℕ
+threadRoom n l = min 256 (length l / (2 + n))
+
+abbrev pub markerRoom : List ℕ → ℕ
+markerRoom l = min 4096 (length l / 4)
+
+-- ---- refusal 22: "The choice bytes aren't 128 in number."
+
+abbrev pub refusal22 : List ℕ → Found Refusal
+refusal22 choices = refuse 22 0 (eqb (length choices) 128)
+
+-- ---- refusal 23: "The lent configuration isn't well formed"
+
+unfoldable pub isResource : Node → Bool
+isResource stop = false
+isResource (new n l) = false
+isResource (par l r) = false
+isResource (choice l r) = false
+isResource (agent out x ys l) = false
+isResource (agent inp x ys l) = false
+isResource (agent resource x ys l) = true
+
+unfoldable pub isOut : Node → Bool
+isOut stop = false
+isOut (new n l) = false
+isOut (par l r) = false
+isOut (choice l r) = false
+isOut (agent out x ys l) = true
+isOut (agent inp x ys l) = false
+isOut (agent resource x ys l) = false
+
+-- "a name's word is 0 exactly where the name isn't free in that agent, and otherwise its new is bound by kind 1"; "marker numbers
+-- are at most the marker count", k
+unfoldable pub wordFormed : Array → ℕ → Bool → ℕ → Bool
+wordFormed a k true x = not (eqb x 0) && (isNew a (newIn x) && leb (markerIn x) k)
+wordFormed a k false x = eqb x 0
+
+-- "threads have agent nodes; marker numbers are at most the marker count", k
+unfoldable pub threadFormed : Array → ℕ → Thread ℕ ℕ → Bool
+threadFormed a k t =
+    isAgent (nodeAt a (t .agent))
+    && (leb (t .marker) k && every (a .names) (λ v. wordFormed a k (isFree (procAt a (t .agent)) v) (getD (t .env) v 0)))
+
+-- "a marker entry has a resource, an out and two numbers below its own": entry i is marker i + 1
+unfoldable pub entryFormed : Array → ℕ → Entry → Bool
+entryFormed a i e = isResource (nodeAt a (e .resource)) && (isOut (nodeAt a (e .out)) && (leb (e .left) i && leb (e .right) i))
+
+-- "no two entries are equal": none equals an earlier one
+unfoldable pub unlike : List Entry → ℕ → Bool
+unlike es i = every i λ j. not (sameEntry (getD es j noEntry) (getD es i noEntry))
+
+unfoldable pub formed : Array → Memory → Bool
+formed a m =
+    -- "both counts fit the lists"
+    leb (m .threadCount) (threadRoom (a .names) (m .threads))
+    && (leb (m .markerCount) (markerRoom (m .markers))
+    && (every (m .threadCount) (λ i. threadFormed a (m .markerCount) (getD (configOf a m) i nobody))
+    && (every (m .markerCount) (λ i. entryFormed a i (getD (entriesOf m) i noEntry)) && every (m .markerCount) (unlike (entriesOf m)))))
+
+abbrev pub refusal23 : Array → Memory → Found Refusal
+refusal23 a m = refuse 23 0 (formed a m)
+
+-- ---- start and step
+
+-- a refusal by its number, or the lists as a start or a step leaves them
+pub data Result : Type 0 where
+  stops : ℕ → Result
+  leaves : Memory → Result
+
+-- the lists with a configuration and its entries: "words past the used ones keep their content"
+unfoldable pub store : Memory → Config ℕ ℕ → List Entry → Memory
+store m c es = record {
+  threads = put 0 (wordsOf c) (m .threads);
+  threadCount = length c;
+  markers = put 0 (numbersOf es) (m .markers);
+  markerCount = length es;
+}
+
+-- "28. The next configuration has more threads than fit."; 29: a new marker "isn't listed yet, and the markers are full"
+unfoldable pub fitted : Array → Memory → Config ℕ ℕ → List Entry → Result
+fitted a m c es =
+    cond (leb (length c) (threadRoom (a .names) (m .threads)))
+    (cond (leb (length es) (markerRoom (m .markers))) (leaves (store m c es)) (stops 29)) (stops 28)
+
+-- the start uses no marker
+unfoldable pub startIn : Array → Choices → Memory → Result
+startIn a ch m = fitted a m (start (words []) a ch) []
+
+unfoldable pub onAnswer : Array → Memory → List Entry → Answer ℕ ℕ → Result
+onAnswer a m es (refused n) = stops n
+onAnswer a m es (next c) = fitted a m c es
+
+-- 24 to 29, or the step
+unfoldable pub stepIn : Array → Memory → Attempt → Result
+stepIn a m u = onAnswer a m (markersAfter a (entriesOf m) (configOf a m) u) (attempt (words (entriesOf m)) a (configOf a m) u)
+
+-- ---- the walk
+
+unfoldable pub isNext : {X C : Type 0} → Answer X C → Bool
+isNext (refused n) = false
+isNext (next c) = true
+
+abbrev pub try : Choices → ℕ → ℕ → Attempt
+try ch r s = record { receiver = r; sender = s; choices = ch }
+
+-- "the first ready pair (not refused by 25 to 27), lowest receiver position first, then lowest sender"
+unfoldable pub firstReady : {X C : Type 0} → Notation X C → Array → Choices → Config X C → Found Attempt
+firstReady N a ch c = first (length c) λ r. first (length c) λ s. test (not (isNext (attempt N a c (try ch r s)))) (try ch r s)
+
+pub data Ending : Type 0 where
+  quiet spent full : Ending
+
+-- how a walk ended, how many steps it made, and the lists as those steps left them
+pub record Walked : Type 0 where
+  pub ending : Ending
+  pub steps : ℕ
+  pub left : Memory
+
+abbrev pub ends : Ending → Memory → Walked
+ends x m = record { ending = x; steps = 0; left = m }
+
+-- the same with one step more, made first
+abbrev pub more : Walked → Walked
+more w = record { ending = w .ending; steps = suc (w .steps); left = w .left }
+
+unfoldable pub onPair : Found Attempt → Walked → (Attempt → Walked) → Walked
+onPair clear w f = w
+onPair (hit u) w f = f u
+
+unfoldable pub onStep : Result → Walked → (Memory → Walked) → Walked
+onStep (stops n) w f = w
+onStep (leaves m) w f = f m
+
+-- "Before each step: no ready pair, quiet; else the steps made equal the allowed number, spent; else a step refused by 28 or 29,
+-- full." The number is that of the steps still allowed.
+unfoldable pub walkIn : Array → Choices → ℕ → Memory → Walked
+walkIn a ch zero m = onPair (firstReady (words (entriesOf m)) a ch (configOf a m)) (ends quiet m) λ u. ends spent m
+walkIn a ch (suc k) m =
+    onPair (firstReady (words (entriesOf m)) a ch (configOf a m)) (ends quiet m) λ u.
+    onStep (stepIn a m u) (ends full m) λ n. more (walkIn a ch k n)
