@@ -25,8 +25,7 @@ fn used_by(r: Record) -> [u64; 4]
 }
 
 // Word w of the names free in the children of a node whose record is r.
-fn below(table: &[u64], r: Record, w: usize) -> u64
-{
+fn below(table: &[u64], r: Record, w: usize) -> u64 {
     if r.kind == 0 {
         return 0;
     }
@@ -38,8 +37,7 @@ fn below(table: &[u64], r: Record, w: usize) -> u64
 }
 
 // The row of node i, whose record is r, from the rows of its children: what it uses, and what is free below and not bound by it.
-fn fill_row(table: &mut [u64], i: usize, r: Record)
-{
+fn fill_row(table: &mut [u64], i: usize, r: Record) {
     let used = used_by(r);
     let bound = scopes::bound_by(r);
     let mut w: usize = 0;

@@ -85,8 +85,7 @@ fn slot_of(e: Entry) -> usize
 }
 
 // Node i has this kind, 4 for an out and 6 for a resource.
-fn has_kind(file: &[u8], t: Trailer, i: usize, kind: usize) -> bool
-{
+fn has_kind(file: &[u8], t: Trailer, i: usize, kind: usize) -> bool {
     if t.nodes <= i {
         return false;
     }

@@ -8,6 +8,7 @@ pub mod Stepped
 pub mod Safety
 pub mod Natural
 pub mod Markers
+pub mod Memory
 pub mod Decoded
 pub mod Cases
 pub mod Bounds

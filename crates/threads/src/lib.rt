@@ -1,4 +1,4 @@
-// Threads in a lent list of words: copied, bound, moved together, checked (the part of refusal 23 that is about threads) and paired.
+// Threads in a lent list of words: copied, bound, moved together, and checked (the part of refusal 23 that is about threads).
 // Promises equations with the model's threads. Depends on frees, arrays, records, marks, wire, model and laws.
 ghost use mathlib.Core.Path.{_≡_};
 ghost use mathlib.Core.Bool.{Bool, true};
@@ -10,20 +10,14 @@ ghost use Rattle.laws.specs.Search.{every};
 ghost use Rattle.laws.specs.Lists.{All, put};
 ghost use Rattle.marks.specs.Marks.{marked};
 ghost use Rattle.model.specs.Tree.{nodeAt, isAgent, isNew, isFree, procAt};
-ghost use Rattle.model.specs.Calculus.{Choices, bind, keep};
+ghost use Rattle.model.specs.Calculus.{bind, keep};
 ghost use Rattle.model.specs.Memory.{threadIn, threadsIn, wordsOf, wordFormed, threadFormed};
 ghost use Rattle.records.specs.Record.{argsOf, arrayOf};
 ghost use Rattle.arrays.specs.File.{IsRead};
 ghost use Rattle.frees.specs.Frees.{AllFree};
-ghost use Rattle.threads.specs.Threads.{remains, meeting, firstMeeting, foundPair, threadsFormed};
+ghost use Rattle.threads.specs.Threads.{remains, threadsFormed};
 use records::Record;
 use records::Trailer;
-
-// The first pair of threads that is ready: receiver and sender.
-pub enum Ready {
-    Nothing,
-    At(usize, usize),
-}
 
 // ---- words moved and copied
 
@@ -52,7 +46,14 @@ pub fn copy_words(threads: &[u32], from: usize, env: &mut [u32])
 }
 
 // Moves the threads that stay together, in order, and returns the words that they use. Nothing is written at or past those words.
-pub fn keep_threads(threads: &mut [u32], names: usize, count: usize, r: usize, s: usize, resource: bool) -> usize
+pub fn keep_threads(
+    threads: &mut [u32],
+    names: usize,
+    count: usize,
+    r: usize,
+    s: usize,
+    resource: bool,
+) -> usize
     requires { ⌜ (count * (2 + names) ≤ length (now threads)) × (names ≤ 256) × (count ≤ 256) ⌝ }
     ensures { λ e. ⌜ (now (threads .exit) ≡ put 0 (wordsOf (keep (remains resource r s) (threadsIn names count (now (threads .entry))))) (now (threads .entry)))
         × (e ≡ length (wordsOf (keep (remains resource r s) (threadsIn names count (now (threads .entry)))))) ⌝ }
@@ -114,8 +115,15 @@ fn word_formed(news: &[u64], marks: usize, free: bool, x: u32) -> bool
 }
 
 // The words of the names from index `at` on are well formed for agent i.
-fn names_formed(table: &[u64], news: &[u64], names: usize, marks: usize, i: usize, threads: &[u32], at: usize) -> bool
-{
+fn names_formed(
+    table: &[u64],
+    news: &[u64],
+    names: usize,
+    marks: usize,
+    i: usize,
+    threads: &[u32],
+    at: usize,
+) -> bool {
     let mut v: usize = 0;
     while v < names {
         let free = marks::is_marked(table, 4 * i, v);
@@ -128,8 +136,15 @@ fn names_formed(table: &[u64], news: &[u64], names: usize, marks: usize, i: usiz
 }
 
 // The thread at index `at` is well formed.
-fn thread_formed(file: &[u8], t: Trailer, table: &[u64], news: &[u64], marks: usize, threads: &[u32], at: usize) -> bool
-{
+fn thread_formed(
+    file: &[u8],
+    t: Trailer,
+    table: &[u64],
+    news: &[u64],
+    marks: usize,
+    threads: &[u32],
+    at: usize,
+) -> bool {
     let i = wire::wide(threads[at]);
     if t.nodes <= i {
         return false;
@@ -145,7 +160,15 @@ fn thread_formed(file: &[u8], t: Trailer, table: &[u64], news: &[u64], marks: us
 }
 
 // The first `count` threads are well formed.
-pub fn threads_formed(file: &[u8], t: Trailer, table: &[u64], news: &[u64], marks: usize, threads: &[u32], count: usize) -> bool
+pub fn threads_formed(
+    file: &[u8],
+    t: Trailer,
+    table: &[u64],
+    news: &[u64],
+    marks: usize,
+    threads: &[u32],
+    count: usize,
+) -> bool
     requires { ⌜ IsRead (now file) t × (count ≤ 256) × (count * (2 + t .names) ≤ length (now threads)) ⌝ }
     requires { ⌜ (length (now table) ≡ 4096) × AllFree (now table) (arrayOf (now file) t) ⌝ }
     requires { ⌜ (length (now news) ≡ 4) × ((o : ℕ) → marked (now news) 0 o ≡ isNew (arrayOf (now file) t) o) ⌝ }
@@ -162,91 +185,4 @@ pub fn threads_formed(file: &[u8], t: Trailer, table: &[u64], news: &[u64], mark
         i += 1;
     }
     true
-}
-
-// ---- pairs
-
-// What a thread does: the kind of its agent, the arity, and the word of its channel.
-struct Act {
-    kind: usize,
-    arity: usize,
-    channel: u32,
-}
-
-fn act_at(file: &[u8], t: Trailer, threads: &[u32], at: usize) -> Act
-{
-    let r = records::record_at(file, t.start + 16 * wire::wide(threads[at]));
-    Act {
-        kind: r.kind,
-        arity: r.arity,
-        channel: threads[at + 2 + r.name],
-    }
-}
-
-// 25 to 27, or 0 where the receiver and the sender are ready.
-fn meets(p: Act, q: Act) -> u8
-{
-    if (p.kind < 5) | (q.kind != 4) {
-        return 25;
-    }
-    if p.arity != q.arity {
-        return 26;
-    }
-    if (p.channel == 0) | (p.channel != q.channel) {
-        return 27;
-    }
-    0
-}
-
-// 25 to 27, or 0 where threads r and s are ready as receiver and sender.
-pub fn pair_refusal(file: &[u8], t: Trailer, threads: &[u32], count: usize, r: usize, s: usize) -> u8
-    requires { ⌜ IsRead (now file) t × (count ≤ 256) × (count * (2 + t .names) ≤ length (now threads)) × (r < count) × (s < count) ⌝ }
-    requires { ⌜ ((i : ℕ) → i < count → isAgent (nodeAt (arrayOf (now file) t) (getD (now threads) (i * (2 + t .names)) 0)) ≡ true) ⌝ }
-    ensures { λ e. ⌜ e ≡ meeting (arrayOf (now (file .entry)) t) (threadIn (t .names) (drop (r * (2 + t .names)) (now (threads .entry))))
-        (threadIn (t .names) (drop (s * (2 + t .names)) (now (threads .entry)))) ⌝ }
-{
-    let width = 2 + t.names;
-    let p = act_at(file, t, threads, r * width);
-    let q = act_at(file, t, threads, s * width);
-    meets(p, q)
-}
-
-// The first sender below `count` that is ready with receiver p, or `count`.
-fn first_sender(file: &[u8], t: Trailer, threads: &[u32], count: usize, p: Act) -> usize
-{
-    let width = 2 + t.names;
-    let mut at: usize = 0;
-    let mut s: usize = 0;
-    while s < count {
-        let q = act_at(file, t, threads, at);
-        if meets(p, q) == 0 {
-            return s;
-        }
-        at += width;
-        s += 1;
-    }
-    count
-}
-
-// The first ready pair: lowest receiver, then lowest sender.
-pub fn first_ready(file: &[u8], t: Trailer, threads: &[u32], count: usize) -> Ready
-    requires { ⌜ IsRead (now file) t × (count ≤ 256) × (count * (2 + t .names) ≤ length (now threads)) ⌝ }
-    requires { ⌜ ((i : ℕ) → i < count → isAgent (nodeAt (arrayOf (now file) t) (getD (now threads) (i * (2 + t .names)) 0)) ≡ true) ⌝ }
-    ensures { λ e. ⌜ ((ch : Choices) → foundPair e ch ≡ firstMeeting (arrayOf (now (file .entry)) t) (threadsIn (t .names) count (now (threads .entry))) count ch) ⌝ }
-{
-    let width = 2 + t.names;
-    let mut at: usize = 0;
-    let mut r: usize = 0;
-    while r < count {
-        let p = act_at(file, t, threads, at);
-        if 5 <= p.kind {
-            let s = first_sender(file, t, threads, count, p);
-            if s < count {
-                return Ready::At(r, s);
-            }
-        }
-        at += width;
-        r += 1;
-    }
-    Ready::Nothing
 }

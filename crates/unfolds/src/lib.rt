@@ -35,7 +35,8 @@ pub fn count_threads(file: &[u8], t: Trailer, choices: &[u8], i: usize) -> usize
         return count_threads(file, t, choices, r.left);
     }
     if r.kind == 2 {
-        let all = count_threads(file, t, choices, r.left) + count_threads(file, t, choices, r.right);
+        let all = count_threads(file, t, choices, r.left)
+            + count_threads(file, t, choices, r.right);
         if 257 <= all {
             return 257;
         }
@@ -57,7 +58,11 @@ fn write_names(table: &[u64], row: usize, env: &[u32], threads: &mut [u32], at: 
 {
     let mut v: usize = 0;
     while v < env.len() {
-        threads[at + v] = if marks::is_marked(table, row, v) { env[v] } else { 0 };
+        threads[at + v] = if marks::is_marked(table, row, v) {
+            env[v]
+        } else {
+            0
+        };
         v += 1;
     }
 }

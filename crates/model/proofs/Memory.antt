@@ -1,0 +1,109 @@
+-- The laws of threads and entries in lists of words: their lengths, where each stands, and that reading what was written gives it back.
+use Prim.Native.Nat.{ℕ, zero, suc, _+_, _*_, _/_, _≤_, _<_, min}
+use native.Mathlib.Nat.{zero-mul, suc-mul, mul-le-mul-right, add-comm, add-zero, zero-add}
+use native.Mathlib.Numerals.{add-one}
+use native.Mathlib.Omega.{arith}
+use mathlib.Core.Path.{_≡_, refl, sym, ap, ap₂, _∙_}
+use mathlib.Core.List.{List, [], _∷_, _++_, append-assoc}
+use lib.ListN.{length, getD, take, drop, length-drop, length-append}
+use lib.Seq.{take-add, drop-drop, getD-drop}
+use Rattle.model.specs.Calculus.{Thread, Config}
+use Rattle.model.specs.Numbers.{Entry, noEntry, nobody}
+use Rattle.model.specs.Memory.{threadIn, threadsIn, threadWords, wordsOf, entryIn, entriesIn, entryNumbers, numbersOf}
+
+-- ---- threads
+
+-- thread r lies within the first k
+pub slot : (n r k : ℕ) → r < k → r * (2 + n) + (2 + n) ≤ k * (2 + n)
+slot n r k h = rw (← suc-mul r (2 + n)) (mul-le-mul-right (2 + n) h)
+
+two : (n : ℕ) → 2 + n ≡ suc (suc n)
+two n = omega arith
+
+-- one step of 2 + n words further
+further : (n r : ℕ) → (2 + n) + r * (2 + n) ≡ suc r * (2 + n)
+further n r = add-comm (2 + n) (r * (2 + n)) ∙ sym (suc-mul r (2 + n))
+
+pub thread-words : (n : ℕ) (l : List ℕ) → 2 + n ≤ length l → threadWords (threadIn n l) ≡ take (2 + n) l
+unfolding threadIn
+thread-words n [] h = absurd (omega arith)
+thread-words n (a ∷ []) h = absurd (omega arith)
+thread-words n (a ∷ b ∷ l) h = rw (two n)
+
+pub words-append : (c d : Config ℕ ℕ) → wordsOf (c ++ d) ≡ wordsOf c ++ wordsOf d
+unfolding wordsOf
+words-append [] d = refl
+words-append (t ∷ c) d = rw (words-append c d, append-assoc)
+
+module _ (n : ℕ) where
+  pub length-threads : (k : ℕ) (l : List ℕ) → length (threadsIn n k l) ≡ k
+  unfolding threadsIn
+  length-threads zero l = refl
+  length-threads (suc k) l = ap suc (length-threads k (drop (2 + n) l))
+
+  -- threads read and written again are the words they were read from
+  pub words-threads : (k : ℕ) (l : List ℕ) → k * (2 + n) ≤ length l → wordsOf (threadsIn n k l) ≡ take (k * (2 + n)) l
+  unfolding threadsIn wordsOf
+  words-threads zero l h = rw (zero-mul (2 + n))
+  words-threads (suc k) l h =
+      let e : suc k * (2 + n) ≡ (2 + n) + k * (2 + n) = sym (further n k) in
+      let h′ : k * (2 + n) ≤ length (drop (2 + n) l) = rw length-drop (omega arith) in
+      ap₂ (λ (x y : List ℕ). x ++ y) (thread-words n l (omega arith)) (words-threads k (drop (2 + n) l) h′)
+      ∙ sym (rw e (take-add (2 + n) (k * (2 + n)) l))
+
+  pub threads-at : (r k : ℕ) (l : List ℕ) → r < k → getD (threadsIn n k l) r nobody ≡ threadIn n (drop (r * (2 + n)) l)
+  unfolding threadsIn
+  threads-at r zero l h = absurd (omega arith)
+  threads-at zero (suc k) l h = rw zero-mul
+  threads-at (suc r) (suc k) l h = threads-at r k (drop (2 + n) l) (omega arith) ∙ rw (drop-drop, further n r)
+
+  -- the same by words
+  pub thread-at : (r k : ℕ) (l : List ℕ) → r < k → getD (threadsIn n k l) r nobody
+      ≡ record { agent = getD l (r * (2 + n)) 0; marker = getD l (r * (2 + n) + 1) 0; env = take n (drop (r * (2 + n) + 2) l) }
+  unfolding threadIn
+  thread-at r k l h =
+      let a : getD (drop (r * (2 + n)) l) 0 0 ≡ getD l (r * (2 + n)) 0 = getD-drop (r * (2 + n)) l 0 0 ∙ rw add-zero in
+      let b : getD (drop (r * (2 + n)) l) 1 0 ≡ getD l (r * (2 + n) + 1) 0 = getD-drop (r * (2 + n)) l 1 0 in
+      let d : drop 2 (drop (r * (2 + n)) l) ≡ drop (r * (2 + n) + 2) l = drop-drop 2 (r * (2 + n)) l in
+      threads-at r k l h ∙ (λ i. record { agent = a i; marker = b i; env = take n (d i) })
+
+-- ---- entries
+
+pub numbers-append : (es ds : List Entry) → numbersOf (es ++ ds) ≡ numbersOf es ++ numbersOf ds
+unfolding numbersOf
+numbers-append [] ds = refl
+numbers-append (e ∷ es) ds = rw (numbers-append es ds)
+
+pub length-entries : (k : ℕ) (l : List ℕ) → length (entriesIn k l) ≡ k
+unfolding entriesIn
+length-entries zero l = refl
+length-entries (suc k) l = ap suc (length-entries k (drop 4 l))
+
+pub entries-at : (r k : ℕ) (l : List ℕ) → r < k → getD (entriesIn k l) r noEntry ≡ entryIn (drop (4 * r) l)
+unfolding entriesIn
+entries-at r zero l h = absurd (omega arith)
+entries-at zero (suc k) l h = refl
+entries-at (suc r) (suc k) l h =
+    let e : 4 + 4 * r ≡ 4 * suc r = omega arith in
+    entries-at r k (drop 4 l) (omega arith) ∙ rw (drop-drop, e)
+
+pub length-numbers : (es : List Entry) → length (numbersOf es) ≡ 4 * length es
+unfolding numbersOf
+length-numbers [] = refl
+length-numbers (e ∷ es) = let h = length-numbers es in omega arith
+
+entry-numbers : (l : List ℕ) → 4 ≤ length l → entryNumbers (entryIn l) ≡ take 4 l
+unfolding entryIn
+entry-numbers [] h = absurd (omega arith)
+entry-numbers (a ∷ []) h = absurd (omega arith)
+entry-numbers (a ∷ b ∷ []) h = absurd (omega arith)
+entry-numbers (a ∷ b ∷ c ∷ []) h = absurd (omega arith)
+entry-numbers (a ∷ b ∷ c ∷ d ∷ l) h = refl
+
+pub numbers-entries : (k : ℕ) (l : List ℕ) → 4 * k ≤ length l → numbersOf (entriesIn k l) ≡ take (4 * k) l
+unfolding entriesIn numbersOf
+numbers-entries zero l h = refl
+numbers-entries (suc k) l h =
+    let e : 4 * suc k ≡ 4 + 4 * k = omega arith in
+    let h′ : 4 * k ≤ length (drop 4 l) = rw length-drop (omega arith) in
+    ap₂ (λ (x y : List ℕ). x ++ y) (entry-numbers l (omega arith)) (numbers-entries k (drop 4 l) h′) ∙ sym (rw e (take-add 4 (4 * k) l))
