@@ -2,7 +2,7 @@
 use Prim.Native.Nat.{ℕ, zero, suc, _+_, _≤_, _<_, zero-le}
 use native.Mathlib.Nat.{not-suc-le-zero, le-of-suc-le-suc}
 use native.Mathlib.Omega.{arith}
-use mathlib.Core.Path.{_≡_, refl, sym, ap, ap₂, _∙_}
+use mathlib.Core.Path.{_≡_, refl, sym, ap, ap₂, _∙_, subst}
 use mathlib.Core.Logic.{_⊎_, inl, inr, ⊎-elim}
 use mathlib.Core.Bool.{Bool, true, false, cond, _&&_, _||_, false≢true}
 use mathlib.Core.List.{List, [], _∷_, _++_, map}
@@ -13,7 +13,7 @@ use borrow.Author.Tests.{eqb-true, eqb-false, eq-eqb, le-leb, lt-ltb, le-ltb}
 use borrow.Author.Count.{below-more}
 use Rattle.laws.specs.Search.{every, any, sum}
 use Rattle.laws.specs.Lists.{All, one, all, has, times}
-use Rattle.laws.proofs.Search.{decided, and-split, and-join, or-split, or-right, true-every, every-same, every-cons, any-same, any-cons, sum-same, sum-cons}
+use Rattle.laws.proofs.Search.{decided, and-split, and-join, or-split, or-right, true-every, every-same, every-zero, every-cons, any-same, any-cons, sum-same, sum-cons}
 
 -- ---- a statement of every element
 
@@ -36,6 +36,10 @@ pub All-map : {A : Type 0} {P Q : A → Type 0} → ((x : A) → P x → Q x) �
 All-map f [] h = tt
 All-map f (x ∷ xs) h = (f x (h .0), All-map f xs (h .1))
 
+pub All-maps : {A B : Type 0} (P : B → Type 0) (f : A → B) (xs : List A) → All (λ x. P (f x)) xs → All P (map f xs)
+All-maps P f [] h = tt
+All-maps P f (x ∷ xs) h = (h .0, All-maps P f xs (h .1))
+
 pub getD-map : {A B : Type 0} (f : A → B) (xs : List A) (n : ℕ) (d : A) (e : B) → n < length xs → getD (map f xs) n e ≡ f (getD xs n d)
 getD-map f [] n d e h = absurd (not-suc-le-zero h)
 getD-map f (x ∷ xs) zero d e h = refl
@@ -54,6 +58,21 @@ All-take P (suc n) (x ∷ xs) h = (h .0, All-take P n xs (h .1))
 pub getD-All : {A : Type 0} (P : A → Type 0) (xs : List A) (d : A) → ((k : ℕ) → P (getD xs k d)) → All P xs
 getD-All P [] d h = tt
 getD-All P (x ∷ xs) d h = (h 0, getD-All P xs d (λ k. h (suc k)))
+
+pub below-All : {A : Type 0} (P : A → Type 0) (d : A) (xs : List A) → ((i : ℕ) → i < length xs → P (getD xs i d)) → All P xs
+below-All P d [] h = tt
+below-All P d (x ∷ xs) h = (h 0 (omega arith), below-All P d xs (λ i b. h (suc i) (omega arith)))
+
+-- a test at every position, and of every element
+pub every-All : {A : Type 0} (f : A → Bool) (d : A) (xs : List A) → every (length xs) (λ i. f (getD xs i d)) ≡ true → All (λ x. f x ≡ true) xs
+every-All f d [] h = tt
+every-All f d (x ∷ xs) h =
+    let s = and-split (f x) _ (sym (every-cons (length xs) (λ i. f (getD (x ∷ xs) i d))) ∙ h) in
+    (s .0, every-All f d xs (s .1))
+
+pub All-every : {A : Type 0} (f : A → Bool) (d : A) (xs : List A) → All (λ x. f x ≡ true) xs → every (length xs) (λ i. f (getD xs i d)) ≡ true
+All-every f d [] h = every-zero _
+All-every f d (x ∷ xs) h = every-cons (length xs) (λ i. f (getD (x ∷ xs) i d)) ∙ and-join (h .0) (All-every f d xs (h .1))
 
 -- the word at k after a store at i
 pub getD-set : (l : List ℕ) (i a k d : ℕ) → i < length l → getD (set l i a) k d ≡ cond (eqb k i) a (getD l k d)
@@ -123,6 +142,15 @@ has-here x xs = rw (eq-eqb x x refl)
 pub has-later : (x : ℕ) (xs : List ℕ) (v : ℕ) → has xs v ≡ true → has (x ∷ xs) v ≡ true
 unfolding has
 has-later x xs v e = or-right (eqb v x) (has xs v) e
+
+pub All-has : (P : ℕ → Type 0) (xs : List ℕ) (v : ℕ) → All P xs → has xs v ≡ true → P v
+unfolding has
+All-has P [] v h e = absurd (false≢true e)
+All-has P (x ∷ xs) v h e = go (or-split (eqb v x) (has xs v) e) (All-has P xs v (h .1))
+  where
+    go : (eqb v x ≡ true) ⊎ (has xs v ≡ true) → (has xs v ≡ true → P v) → P v
+    go (inl q) ih = subst P (sym (eqb-true v x q)) (h .0)
+    go (inr q) ih = ih q
 
 pub has-getD : (xs : List ℕ) (n d : ℕ) → n < length xs → has xs (getD xs n d) ≡ true
 has-getD [] n d h = absurd (not-suc-le-zero h)

@@ -70,7 +70,7 @@ module _ (es : List Entry) (ok : Listed es) where
         extend-new es ok made hr ht
         ∙ ap₂ (Marker.node (r .agent) (t .agent)) (sym (extend-decode es ok made hr ht (r .marker) hr)) (sym (extend-decode es ok made hr ht (t .marker) ht))
 
-    made-fits : (s : Sort) → markerOf (numbers es) s r t ≤ length (listAfter es s r t)
+    pub made-fits : (s : Sort) → markerOf (numbers es) s r t ≤ length (listAfter es s r t)
     unfolding listAfter markerOf numbers
     made-fits out = hr
     made-fits inp = hr

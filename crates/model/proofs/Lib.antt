@@ -5,10 +5,14 @@ pub mod Closed
 pub mod Verdict
 pub mod Threads
 pub mod Stepped
+pub mod Covers
 pub mod Safety
 pub mod Natural
 pub mod Markers
 pub mod Memory
+pub mod Words
+pub mod Lent
+pub mod Engine
 pub mod Decoded
 pub mod Cases
 pub mod Bounds

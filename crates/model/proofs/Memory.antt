@@ -1,15 +1,16 @@
 -- The laws of threads and entries in lists of words: their lengths, where each stands, and that reading what was written gives it back.
 use Prim.Native.Nat.{ℕ, zero, suc, _+_, _*_, _/_, _≤_, _<_, min}
-use native.Mathlib.Nat.{zero-mul, suc-mul, mul-le-mul-right, add-comm, add-zero, zero-add}
+use native.Mathlib.Nat.{zero-mul, suc-mul, mul-le-mul-right, add-comm, add-zero, zero-add, le-div-iff-mul-le}
 use native.Mathlib.Numerals.{add-one}
 use native.Mathlib.Omega.{arith}
 use mathlib.Core.Path.{_≡_, refl, sym, ap, ap₂, _∙_}
 use mathlib.Core.List.{List, [], _∷_, _++_, append-assoc}
 use lib.ListN.{length, getD, take, drop, length-drop, length-append}
-use lib.Seq.{take-add, drop-drop, getD-drop}
+use lib.Seq.{take-add, take-at, drop-at, drop-drop, getD-drop, length-take-le}
+use Rattle.laws.specs.Lists.{All, put}
 use Rattle.model.specs.Calculus.{Thread, Config}
 use Rattle.model.specs.Numbers.{Entry, noEntry, nobody}
-use Rattle.model.specs.Memory.{threadIn, threadsIn, threadWords, wordsOf, entryIn, entriesIn, entryNumbers, numbersOf}
+use Rattle.model.specs.Memory.{threadIn, threadsIn, threadWords, wordsOf, entryIn, entriesIn, entryNumbers, numbersOf, threadRoom, markerRoom}
 
 -- ---- threads
 
@@ -107,3 +108,66 @@ numbers-entries (suc k) l h =
     let e : 4 * suc k ≡ 4 + 4 * k = omega arith in
     let h′ : 4 * k ≤ length (drop 4 l) = rw length-drop (omega arith) in
     ap₂ (λ (x y : List ℕ). x ++ y) (entry-numbers l (omega arith)) (numbers-entries k (drop 4 l) h′) ∙ sym (rw e (take-add 4 (4 * k) l))
+
+-- ---- what is read where threads and entries were written
+
+-- each thread has n names
+abbrev pub Wide : ℕ → Config ℕ ℕ → Type 0
+Wide n c = All (λ t. length (t .env) ≡ n) c
+
+pub length-words : (n : ℕ) (c : Config ℕ ℕ) → Wide n c → length (wordsOf c) ≡ length c * (2 + n)
+unfolding wordsOf
+length-words n [] w = sym (zero-mul (2 + n))
+length-words n (t ∷ c) w =
+    let h = length-words n c (w .1) in
+    let e = w .0 in
+    rw (length-append (t .env) (wordsOf c), h, e, suc-mul (length c) (2 + n)) (omega arith)
+
+drop-words : (n : ℕ) (t : Thread ℕ ℕ) (l : List ℕ) → length (t .env) ≡ n → drop (2 + n) (threadWords t ++ l) ≡ l
+drop-words n t l e = rw (two n) (drop-at (t .env) l n e)
+
+read-words : (n : ℕ) (t : Thread ℕ ℕ) (l : List ℕ) → length (t .env) ≡ n → threadIn n (threadWords t ++ l) ≡ t
+unfolding threadIn
+read-words n t l e = let z = take-at (t .env) l n e in λ i. record { agent = t .agent; marker = t .marker; env = z i }
+
+pub threads-words : (n : ℕ) (c : Config ℕ ℕ) (l : List ℕ) → Wide n c → threadsIn n (length c) (wordsOf c ++ l) ≡ c
+unfolding wordsOf threadsIn
+threads-words n [] l w = refl
+threads-words n (t ∷ c) l w =
+    let e : (threadWords t ++ wordsOf c) ++ l ≡ threadWords t ++ (wordsOf c ++ l) = append-assoc (threadWords t) (wordsOf c) l in
+    ap₂ (λ (x : Thread ℕ ℕ) (y : Config ℕ ℕ). x ∷ y) (ap (threadIn n) e ∙ read-words n t (wordsOf c ++ l) (w .0))
+    (ap (λ (x : List ℕ). threadsIn n (length c) (drop (2 + n) x)) e
+    ∙ ap (threadsIn n (length c)) (drop-words n t (wordsOf c ++ l) (w .0))
+    ∙ threads-words n c l (w .1))
+
+pub entries-numbers : (es : List Entry) (l : List ℕ) → entriesIn (length es) (numbersOf es ++ l) ≡ es
+unfolding numbersOf entriesIn entryIn
+entries-numbers [] l = refl
+entries-numbers (e ∷ es) l = ap (λ (x : List Entry). e ∷ x) (entries-numbers es l)
+
+pub put-front : {A : Type 0} (xs l : List A) → put 0 xs l ≡ xs ++ drop (length xs) l
+unfolding put
+put-front xs l = rw zero-add
+
+-- threads read from a list that is long enough have n names each
+pub threads-wide : (n k : ℕ) (l : List ℕ) → k * (2 + n) ≤ length l → Wide n (threadsIn n k l)
+unfolding threadsIn threadIn
+threads-wide n zero l h = tt
+threads-wide n (suc k) l h =
+    let e = suc-mul k (2 + n) in
+    let g : n ≤ length (drop 2 l) = rw length-drop (omega arith) in
+    let h′ : k * (2 + n) ≤ length (drop (2 + n) l) = rw length-drop (omega arith) in
+    (length-take-le n (drop 2 l) g, threads-wide n k (drop (2 + n) l) h′)
+
+-- ---- room
+
+pub thread-room : (n k : ℕ) (l : List ℕ) → k ≤ threadRoom n l → (k ≤ 256) × (k * (2 + n) ≤ length l)
+thread-room n k l h =
+    let g : k ≤ length l / (2 + n) = omega arith in
+    (omega arith, le-div-iff-mul-le {k = 2 + n} {x = k} {y = length l} (omega arith) .0 g)
+
+pub room-thread : (n k : ℕ) (l : List ℕ) → k ≤ 256 → k * (2 + n) ≤ length l → k ≤ threadRoom n l
+room-thread n k l h g = let z : k ≤ length l / (2 + n) = le-div-iff-mul-le {k = 2 + n} {x = k} {y = length l} (omega arith) .1 g in omega arith
+
+pub marker-room : (k : ℕ) (l : List ℕ) → k ≤ markerRoom l → (k ≤ 4096) × (4 * k ≤ length l)
+marker-room k l h = (omega arith, omega arith)

@@ -121,6 +121,16 @@ module _ {X C : Type 0} where
   pub getD-cut : (N : Notation X C) (f : ℕ → Bool) (v : ℕ) (e : List C) → f v ≡ true → getD (cutFrom N f 0 e) v (N .unheld) ≡ getD e v (N .unheld)
   getD-cut N f v e h = getD-cutFrom N f 0 v e (rw zero-add h)
 
+  getD-uncutFrom : (N : Notation X C) (f : ℕ → Bool) (u v : ℕ) (e : List C) → f (u + v) ≡ false → getD (cutFrom N f u e) v (N .unheld) ≡ N .unheld
+  unfolding cutFrom
+  getD-uncutFrom N f u v [] h = refl
+  getD-uncutFrom N f u zero (c ∷ e) h = let z : f u ≡ false = rw (← add-zero u) h in rw z
+  getD-uncutFrom N f u (suc v) (c ∷ e) h = getD-uncutFrom N f (suc u) v e (let z : u + suc v ≡ suc u + v = omega arith in rw z at h)
+
+  -- a name that is not free holds nothing
+  pub getD-uncut : (N : Notation X C) (f : ℕ → Bool) (v : ℕ) (e : List C) → f v ≡ false → getD (cutFrom N f 0 e) v (N .unheld) ≡ N .unheld
+  getD-uncut N f v e h = getD-uncutFrom N f 0 v e (rw zero-add h)
+
 pub length-bind : {C : Type 0} (ys : List ℕ) (cs e : List C) → length (bind ys cs e) ≡ length e
 unfolding bind
 length-bind [] cs e = refl

@@ -1,16 +1,18 @@
 -- Lent memory: threads as words, markers as entries of four numbers; refusals 22 and 23; start, step and walk on such lists, with
 -- the limits of 28 and 29 (01, "Configurations and steps").
-use Prim.Native.Nat.{ℕ, zero, suc, _+_, _*_, _-_, _/_, _%_, min}
+use Prim.Native.Nat.{ℕ, zero, suc, _+_, _*_, _-_, _/_, _%_, _<_, _≤_, min}
+use mathlib.Core.Path.{_≡_}
+use mathlib.Core.Logic.{_⊎_}
 use mathlib.Core.Bool.{Bool, true, false, cond, not, _&&_}
-use mathlib.Core.List.{List, [], _∷_, _++_}
+use mathlib.Core.List.{List, [], _∷_, _++_, map}
 use lib.Dec.{eqb, ltb, leb}
 use lib.ListN.{length, getD, take, drop}
 use Rattle.laws.specs.Search.{Found, clear, hit, test, first, every, any}
 use Rattle.laws.specs.Lists.{put}
 use Rattle.model.specs.Tree.{Array, Sort, out, inp, resource, Node, stop, new, par, choice, agent, nodeAt, isAgent, isNew, isFree, procAt}
 use Rattle.model.specs.Formed.{Refusal, refuse}
-use Rattle.model.specs.Calculus.{Notation, Choices, Thread, Config, Attempt, Answer, refused, next, attempt, start}
-use Rattle.model.specs.Numbers.{Entry, noEntry, sameEntry, position, nobody, markersAfter}
+use Rattle.model.specs.Calculus.{Notation, Marker, Cell, unheld, holds, calculus, Choices, Thread, Config, Attempt, Answer, refused, next, attempt, start}
+use Rattle.model.specs.Numbers.{Entry, noEntry, sameEntry, position, decode, mapThread, mapCell, nobody, markersAfter}
 
 -- ---- words
 
@@ -222,3 +224,46 @@ walkIn a ch zero m = onPair (firstReady (words (entriesOf m)) a ch (configOf a m
 walkIn a ch (suc k) m =
     onPair (firstReady (words (entriesOf m)) a ch (configOf a m)) (ends quiet m) λ u.
     onStep (stepIn a m u) (ends full m) λ n. more (walkIn a ch k n)
+
+-- ---- what the lists stand for: threads with marker trees, as the calculus has them
+
+unfoldable pub cellOf : ℕ → Cell ℕ
+cellOf x = cond (eqb x 0) unheld (holds (newIn x) (markerIn x))
+
+unfoldable pub decodeWord : List Entry → ℕ → Cell Marker
+decodeWord es x = mapCell (decode es) (cellOf x)
+
+unfoldable pub standsFor : Array → Memory → Config Marker (Cell Marker)
+standsFor a m = map (mapThread (decode (entriesOf m)) (decodeWord (entriesOf m))) (configOf a m)
+
+-- ---- start, step and walk in the terms of the calculus
+
+-- the lists after a start hold the calculus' start, unless it has more threads than fit
+abbrev pub Starts : Array → Choices → Memory → Result → Type 0
+Starts a ch m r =
+    ((r ≡ stops 28) × (threadRoom (a .names) (m .threads) < length (start calculus a ch)))
+    ⊎ ((n : Memory) × (r ≡ leaves n) × (standsFor a n ≡ start calculus a ch))
+
+-- a refusal of the calculus is the refusal of the step; a step of the calculus is stopped by 28, where it leaves more threads than
+-- fit, by 29, where it lists more markers than fit, or made
+abbrev pub Follows : Array → Memory → Attempt → Answer Marker (Cell Marker) → Result → Type 0
+Follows a m u (refused n) r = r ≡ stops n
+Follows a m u (next d) r =
+    ((r ≡ stops 28) × (threadRoom (a .names) (m .threads) < length d))
+    ⊎ (((r ≡ stops 29) × (markerRoom (m .markers) < length (markersAfter a (entriesOf m) (configOf a m) u)))
+    ⊎ ((n : Memory) × (r ≡ leaves n) × (standsFor a n ≡ d)))
+
+-- n steps of the calculus, each of the first ready pair, lead from configuration c to e
+abbrev pub Walks : Array → Choices → ℕ → Config Marker (Cell Marker) → Config Marker (Cell Marker) → Type 0
+Walks a ch zero c e = c ≡ e
+Walks a ch (suc n) c e =
+    (u : Attempt) × (d : Config Marker (Cell Marker)) × (firstReady calculus a ch c ≡ hit u) × (attempt calculus a c u ≡ next d) × Walks a ch n d e
+
+-- why a walk of at most `allowed` steps ended where it did
+abbrev pub Ends : Array → Choices → ℕ → Walked → Ending → Type 0
+Ends a ch allowed w quiet = firstReady calculus a ch (standsFor a (w .left)) ≡ clear
+Ends a ch allowed w spent = (w .steps ≡ allowed) × ((u : Attempt) × (firstReady calculus a ch (standsFor a (w .left)) ≡ hit u))
+Ends a ch allowed w full =
+    (w .steps < allowed)
+    × ((u : Attempt) × (firstReady calculus a ch (standsFor a (w .left)) ≡ hit u)
+    × ((stepIn a (w .left) u ≡ stops 28) ⊎ (stepIn a (w .left) u ≡ stops 29)))
