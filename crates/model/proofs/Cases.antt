@@ -12,6 +12,7 @@ use Rattle.model.specs.Formed.{WellFormed}
 use Rattle.model.specs.Calculus as S
 use Rattle.model.specs.Calculus.{calculus, Choices, Attempt, run}
 use Rattle.model.specs.Numbers as N
+use Rattle.model.specs.Memory as M
 use Rattle.model.specs.Rules as U
 use Rattle.model.specs.Rules.{ClaimsFit, held, verdict}
 use Rattle.model.specs.Safe.{Safe}
@@ -20,18 +21,20 @@ use Rattle.model.proofs.Safety.{demand3}
 
 -- Whoever unfolds this unfolds every definition of the model.
 computed : Unit {0}
-unfolding F.test F.andThen F.under F.first F.every F.any F.sum L.one L.all L.has L.times
+unfolding F.test F.andThen F.under F.first F.every F.any F.sum L.one L.all L.has L.times L.put T.isAgent
     T.nodeAt T.grow T.tree T.procAt T.asAgent T.agentAt T.receives T.freeBelow T.isFree T.load T.opens T.isNew
     W.children W.params W.binds W.sent W.uses W.childFits W.refusal8 W.fieldsTo W.refusal9 W.refusal10 W.binders W.refusal11 W.reaches W.inReach W.refusal12
     S.sameMarker S.sameCell S.calculus S.stays S.bind S.keep S.unless S.onAgents S.after S.cutFrom S.unfoldProc S.markerOf S.receiverLeaves S.senderLeaves
     S.stepped S.attempt S.start S.attempts S.run
     N.sameEntry N.position N.extend N.numbers N.listAfter N.markersAfter N.startLent N.settle N.afterLent N.attemptsLent
+    M.words M.threadIn M.threadsIn M.wordsOf M.entryIn M.entriesIn M.numbersOf M.isResource M.isOut M.wordFormed M.threadFormed M.entryFormed M.unlike M.formed
+    M.store M.fitted M.startIn M.onAnswer M.stepIn M.isNext M.firstReady M.onPair M.onStep M.walkIn
     U.within U.shareBit U.fitBoth U.live U.taken U.onLive U.pairs U.check1 U.check2 U.arguments3 U.check3 U.balances4 U.check4 U.check5 U.verdict
 computed = tt
 
 pub cases : All Says rows
 unfolding computed table
-cases = (refl, (refl, (refl, (refl, (refl, (refl, (refl, (refl, (refl, (refl, (refl, (refl, tt))))))))))))
+cases = (refl, (refl, (refl, (refl, (refl, (refl, (refl, (refl, (refl, (refl, (refl, (refl, (refl, (refl, (refl, (refl, (refl, tt)))))))))))))))))
 
 -- ---- demand 3 at A: its array is well formed, its table is accepted, so every configuration that A can come to is safe
 

@@ -1,7 +1,7 @@
 -- Arrays A, B and C of 01 with their tables, and the marked cases as rows of one table (01, "Arrays A, B and C").
 use Prim.Native.Nat.{ℕ}
 use mathlib.Core.Path.{_≡_}
-use mathlib.Core.Bool.{false}
+use mathlib.Core.Bool.{Bool, true, false}
 use mathlib.Core.List.{List, [], _∷_}
 use lib.ListN.{length, getD}
 use Rattle.laws.specs.Search.{clear, hit}
@@ -9,6 +9,7 @@ use Rattle.laws.specs.Lists.{has}
 use Rattle.model.specs.Tree.{Array, Node, out, inp, resource}
 use Rattle.model.specs.Calculus.{Marker, Cell, Attempt, Answer, refused, next, calculus, attempt, run}
 use Rattle.model.specs.Numbers.{Entry, Lent, startLent, attemptsLent}
+use Rattle.model.specs.Memory.{Memory, Result, leaves, startIn, formed, spent, Walked, walkIn}
 use Rattle.model.specs.Rules.{Table, Claim, Verdict, held, at, verdict, check5}
 
 -- an array of listed nodes
@@ -108,12 +109,29 @@ pair r s = record { receiver = r; sender = s; choices = λ i. false }
 abbrev pub entry : ℕ → ℕ → ℕ → ℕ → Entry
 entry r o m n = record { resource = r; out = o; left = m; right = n }
 
+-- lent lists for B, of three words a thread and four numbers a marker, with 7 and 9 where nothing was written
+abbrev pub lists : List ℕ → ℕ → List ℕ → ℕ → Memory
+lists ws k ns j = record { threads = ws; threadCount = k; markers = ns; markerCount = j }
+
+-- before the start, after it, and after two steps
+abbrev pub B₀ : Memory
+B₀ = lists (7 ∷ 7 ∷ 7 ∷ 7 ∷ 7 ∷ 7 ∷ 7 ∷ 7 ∷ 7 ∷ []) 0 (9 ∷ 9 ∷ 9 ∷ 9 ∷ 9 ∷ 9 ∷ 9 ∷ 9 ∷ 9 ∷ []) 0
+
+abbrev pub B₁ : Memory
+B₁ = lists (2 ∷ 0 ∷ 1 ∷ 4 ∷ 0 ∷ 1 ∷ 7 ∷ 7 ∷ 7 ∷ []) 2 (9 ∷ 9 ∷ 9 ∷ 9 ∷ 9 ∷ 9 ∷ 9 ∷ 9 ∷ 9 ∷ []) 0
+
+abbrev pub B₂ : Memory
+B₂ = lists (4 ∷ 0 ∷ 1 ∷ 5 ∷ 2 ∷ 1 ∷ 7 ∷ 7 ∷ 7 ∷ []) 2 (4 ∷ 2 ∷ 0 ∷ 0 ∷ 4 ∷ 5 ∷ 0 ∷ 1 ∷ 9 ∷ []) 2
+
 -- ---- the rows
 
 pub data Row : Type 0 where
   judged : Array → Table → Verdict → Row
   claimed : Table → Verdict → Row
   walked : Array → List Attempt → Lent → Row
+  starts : Array → Memory → Result → Row
+  wellFormed : Array → Memory → Bool → Row
+  walks : Array → ℕ → Memory → Walked → Row
   tried : Array → List Attempt → Attempt → Answer Marker (Cell Marker) → Row
 
 -- what a row says
@@ -121,6 +139,9 @@ abbrev pub Says : Row → Type 0
 Says (judged a t v) = verdict a t ≡ v
 Says (claimed t v) = check5 A t ≡ v
 Says (walked a us l) = attemptsLent a (startLent a (λ i. false)) us ≡ l
+Says (starts a m r) = startIn a (λ i. false) m ≡ r
+Says (wellFormed a m b) = formed a m ≡ b
+Says (walks a k m w) = walkIn a (λ i. false) k m ≡ w
 Says (tried a us u x) = attempt calculus a (run calculus a (λ i. false) us) u ≡ x
 
 abbrev pub rows : List Row
@@ -151,6 +172,12 @@ rows =
       markers = entry 4 2 0 0 ∷ entry 4 5 0 1 ∷ [];
       threads = record { agent = 4; marker = 0; env = Cell.holds 0 0 ∷ [] } ∷ record { agent = 5; marker = 2; env = Cell.holds 0 0 ∷ [] } ∷ [];
     }
+    -- The same in the engine's words: the start, and two steps of the walk. "B with 2 steps allowed: spent; with 0: spent after none."
+    ∷ starts B B₀ (leaves B₁)
+    ∷ wellFormed B B₁ true
+    ∷ walks B 2 B₁ record { ending = spent; steps = 2; left = B₂ }
+    ∷ wellFormed B B₂ true
+    ∷ walks B 0 B₁ record { ending = spent; steps = 0; left = B₁ }
     -- Channels are not compared by name alone: a receiver and a sender on name 1 of two instances do not meet (27).
     ∷ tried D (pair 0 1 ∷ pair 0 1 ∷ []) (pair 2 3) (refused 27)
     ∷ []

@@ -29,26 +29,11 @@ use Rattle.records.proofs.Laws.{by-kind, kind-above, eight-args, node-of}
 use Rattle.arrays.proofs.Laws.{arity-small}
 use Rattle.layout.specs.declared.Sizes.{Sizes}
 use Rattle.layout.specs.Table.{tableOf}
-use Rattle.pairs.specs.Pairs.{sortOf, agentIn, Reads, Ready, livePair, bearsBoth, argumentHolds, balanceHolds}
+use Rattle.arrays.specs.Agents.{sortOf, agentIn, Reads}
+use Rattle.arrays.proofs.Agents.{agent-node, receives-kind, node-is, agent-is, no-agent, arity-is, name-below, args-below, left-below}
+use Rattle.pairs.specs.Pairs.{Ready, livePair, bearsBoth, argumentHolds, balanceHolds}
 
 -- ---- records of agents
-
--- kinds 4 and up
-agent-node : (r : Record) → 4 ≤ r .kind → nodeOf r ≡ Node.agent (sortOf (r .kind)) (r .name) (argsOf r) (r .left)
-agent-node r =
-    by-kind r (λ k n. 4 ≤ k → n ≡ Node.agent (sortOf k) (r .name) (argsOf r) (r .left))
-    (λ h. absurd (omega arith)) (λ h. absurd (omega arith)) (λ h. absurd (omega arith)) (λ h. absurd (omega arith)) (λ h. refl) (λ h. refl)
-    (λ k l h. rw (kind-above k 4 l (omega arith), kind-above k 5 l (omega arith)))
-
--- a kind sends exactly where it is 4
-receives-kind : (k : ℕ) → receives (sortOf k) ≡ not (eqb k 4)
-unfolding receives
-receives-kind k = go (eqb k 4) (eqb k 5)
-  where
-    go : (b c : Bool) → receives (cond b out (cond c inp resource)) ≡ not b
-    go true c = refl
-    go false true = refl
-    go false false = refl
 
 -- an in's weight goes, a resource's stays
 taken-kind : (k : ℕ) → 5 ≤ k → (w : ℕ) → cond (eqb k 5) w 0 ≡ taken (sortOf k) w
@@ -58,17 +43,6 @@ taken-kind k h w = rw (ne-eqb k 4 (λ e. absurd (omega arith))) (go (eqb k 5))
     go : (b : Bool) → cond b w 0 ≡ taken (cond b inp resource) w
     go true = refl
     go false = refl
-
-module _ (a : Array) (f : ℕ → Proc) (r : Record) where
-  agent-some : 4 ≤ r .kind → agentOf f (nodeOf r) ≡ some record { sort = sortOf (r .kind); channel = r .name; args = argsOf r; body = f (r .left) }
-  unfolding agentOf
-  agent-some h = rw (agent-node r h)
-
-  agent-none : r .kind < 4 → agentOf f (nodeOf r) ≡ none
-  unfolding agentOf
-  agent-none =
-      by-kind r (λ k n. k < 4 → agentOf f n ≡ none)
-      (λ h. refl) (λ h. refl) (λ h. refl) (λ h. refl) (λ h. absurd (omega arith)) (λ h. absurd (omega arith)) (λ k l h. absurd (omega arith))
 
 module _ {f : List ℕ} {t : Trailer} {s : List ℕ} {z : Sizes} {rows loads bounds : List ℕ} (ready : Ready f t s z rows loads bounds) where
   abbrev a : Array
@@ -80,51 +54,23 @@ module _ {f : List ℕ} {t : Trailer} {s : List ℕ} {z : Sizes} {rows loads bou
   wf : WellFormed a
   wf = ready .array .formed
 
-  pub node-is : {i : ℕ} {r : Record} → Reads f t i r → nodeAt a i ≡ nodeOf r
-  node-is {i} h = node-of f t i (h .below) ∙ ap nodeOf (sym (h .is))
-
-  pub agent-is : {i : ℕ} {r : Record} → Reads f t i r → 4 ≤ r .kind → agentAt a i ≡ some (agentIn a r)
-  agent-is {i} {r} h k =
-      agent-at a (wf .children) i (h .below) ∙ ap (agentOf (λ l. procAt a l)) (node-is h) ∙ agent-some a (λ l. procAt a l) r k
-
-  pub no-agent : {i : ℕ} {r : Record} → Reads f t i r → r .kind < 4 → agentAt a i ≡ none
-  no-agent {i} {r} h k = agent-at a (wf .children) i (h .below) ∙ ap (agentOf (λ l. procAt a l)) (node-is h) ∙ agent-none a (λ l. procAt a l) r k
-
-  -- a record has as many arguments as its arity says, at most 8
-  pub small-arity : {i : ℕ} {r : Record} → Reads f t i r → r .arity ≤ 8
-  small-arity {i} h = rw (h .is) (arity-small f t (ready .array) i (h .below))
-
-  pub arity-is : {i : ℕ} {r : Record} → Reads f t i r → length (argsOf r) ≡ r .arity
-  arity-is {i} h =
-      let e : length (recordOf f t i .args) ≡ 8 = eight-args f (t .start + 16 * i) (let l = h .below in omega (arith, ready .array .fills)) in
-      rw (h .is) (length-take-le (recordOf f t i .arity) (recordOf f t i .args) (omega (arith, arity-small f t (ready .array) i (h .below))))
-
   pub arg-is : (r : Record) (n : ℕ) → n < r .arity → getD (argsOf r) n 0 ≡ getD (r .args) n 0
   arg-is r n h = getD-take (r .arity) (r .args) n 0 h
 
-  -- its names are below N
-  named : {i : ℕ} {r : Record} → Reads f t i r → 4 ≤ r .kind → AgentWf a i (sortOf (r .kind)) (r .name) (argsOf r) (procAt a (r .left))
-  named {i} {r} h k =
-      (rw (agent-tree a (wf .children) i (agentIn a r) (agent-is h k)) at (wf-procAt a (wf .children) (wf .named) i (h .below))) .0
-
-  pub name-below : {i : ℕ} {r : Record} → Reads f t i r → 4 ≤ r .kind → r .name < z .names
-  name-below h k = rw (ready .table .laid .names) (named h k .channel)
+  -- an agent's names are below N
+  pub name-known : {i : ℕ} {r : Record} → Reads f t i r → 4 ≤ r .kind → r .name < z .names
+  name-known h k = rw (ready .table .laid .names) (name-below (ready .array) h k)
 
   pub arg-below : {i : ℕ} {r : Record} → Reads f t i r → 4 ≤ r .kind → (n : ℕ) → n < r .arity → getD (r .args) n 0 < z .names
   arg-below {i} {r} h k n l =
-      let e = arity-is h in
-      let b = All-getD (λ y. y < t .names) (argsOf r) n 0 (named h k .args) (omega arith) in
+      let e = arity-is (ready .array) h in
+      let b = All-getD (λ y. y < t .names) (argsOf r) n 0 (args-below (ready .array) h k) (omega arith) in
       rw (← arg-is r n l, ready .table .laid .names) b
-
-  -- its continuation is a node
-  pub left-below : {i : ℕ} {r : Record} → Reads f t i r → 4 ≤ r .kind → r .left < t .nodes
-  unfolding children
-  left-below {i} {r} h k = child-above a (wf .children) i (r .left) (rw (node-is h, agent-node r k) (has-here (r .left) [])) .1
 
   -- its load is its weight
   pub load-agent : {i : ℕ} {r : Record} → Reads f t i r → 4 ≤ r .kind → (w : ℕ → ℕ) → load w (procAt a i) ≡ w i
   unfolding loadOf
-  load-agent {i} {r} h k w = load-at a (wf .children) i (h .below) w ∙ ap (loadOf w i (λ l. load w (procAt a l))) (node-is h ∙ agent-node r k)
+  load-agent {i} {r} h k w = load-at a (wf .children) i (h .below) w ∙ ap (loadOf w i (λ l. load w (procAt a l))) (node-is (ready .array) h ∙ agent-node r k)
 
   pub weight-is : {i : ℕ} {r : Record} → Reads f t i r → 4 ≤ r .kind → (n : ℕ) → n < z .balances → getD loads (24 * i + n) 0 ≡ (T .balance n) .weight i
   weight-is {i} h k n l = ready .weighs i n (h .below) l ∙ load-agent h k ((T .balance n) .weight)
@@ -138,7 +84,7 @@ module _ {f : List ℕ} {t : Trailer} {s : List ℕ} {z : Sizes} {rows loads bou
   row-fits v h = let n = names-few in let e = ready .manyRows in omega arith
 
   pub name-row : {i : ℕ} {r : Record} → Reads f t i r → 4 ≤ r .kind → 4 * r .name + 3 < length rows
-  name-row {i} {r} h k = row-fits (r .name) (name-below h k)
+  name-row {i} {r} h k = row-fits (r .name) (name-known h k)
 
   pub share-is : (u v : ℕ) → u < z .names → v < z .names → share rows (4 * u) (4 * v) ≡ shareBit T u v
   unfolding share shareBit
@@ -155,8 +101,8 @@ module _ {f : List ℕ} {t : Trailer} {s : List ℕ} {z : Sizes} {rows loads bou
   unfolding onLive
   no-receiver {p} {rp} h k q g =
       ⊎-elim
-      (λ (e : ltb (rp .kind) 4 ≡ true). rw (no-agent h (ltb-true _ _ e)))
-      (λ (e : ltb (rp .kind) 4 ≡ false). let l = ltb-false _ _ e in rw (agent-is h l) (sends (omega arith) (agentAt a q)))
+      (λ (e : ltb (rp .kind) 4 ≡ true). rw (no-agent (ready .array) h (ltb-true _ _ e)))
+      (λ (e : ltb (rp .kind) 4 ≡ false). let l = ltb-false _ _ e in rw (agent-is (ready .array) h l) (sends (omega arith) (agentAt a q)))
       (decided (ltb (rp .kind) 4))
     where
       sends : rp .kind ≡ 4 → (x : Option Agent) → onLive T p q (some (agentIn a rp)) x g ≡ clear
@@ -172,7 +118,7 @@ module _ {f : List ℕ} {t : Trailer} {s : List ℕ} {z : Sizes} {rows loads bou
     receives-p = receives-kind (rp .kind) ∙ ap not (ne-eqb (rp .kind) 4 (λ e. absurd (omega arith)))
 
     receiver-is : agentAt a p ≡ some (agentIn a rp)
-    receiver-is = agent-is hp (omega arith)
+    receiver-is = agent-is (ready .array) hp (omega arith)
 
     -- a pair whose second node is no out
     pub live-else : (rq .kind ≡ 4 → ⊥) → livePair a T p rp q rq ≡ false
@@ -191,8 +137,8 @@ module _ {f : List ℕ} {t : Trailer} {s : List ℕ} {z : Sizes} {rows loads bou
         && every (z .balances) (λ k. bearsBoth loads bounds p q k)
     unfolding live
     live-out e =
-        let sh = share-is (rp .name) (rq .name) (name-below hp (omega arith)) (name-below hq (omega arith)) in
-        rw (receives-p, receives-kind (rq .kind), eq-eqb (rq .kind) 4 e, arity-is hp, arity-is hq, ← sh, fits-is e)
+        let sh = share-is (rp .name) (rq .name) (name-known hp (omega arith)) (name-known hq (omega arith)) in
+        rw (receives-p, receives-kind (rq .kind), eq-eqb (rq .kind) 4 e, arity-is (ready .array) hp, arity-is (ready .array) hq, ← sh, fits-is e)
 
     -- one test after another
     pub live-arity : rq .kind ≡ 4 → (rp .arity ≡ rq .arity → ⊥) → livePair a T p rp q rq ≡ false
@@ -215,7 +161,7 @@ module _ {f : List ℕ} {t : Trailer} {s : List ℕ} {z : Sizes} {rows loads bou
         (decided (eqb (rq .kind) 4))
 
     pub live-arities : livePair a T p rp q rq ≡ true → rp .arity ≡ rq .arity
-    live-arities l = sym (arity-is hp) ∙ live-Live T p q (agentIn a rp) (agentIn a rq) l .arities ∙ arity-is hq
+    live-arities l = sym (arity-is (ready .array) hp) ∙ live-Live T p q (agentIn a rp) (agentIn a rq) l .arities ∙ arity-is (ready .array) hq
 
     -- a search at the pair, by the two records
     pub pair-is : (g : Agent → Agent → Verdict) → onLive T p q (agentAt a p) (agentAt a q) g
@@ -223,8 +169,8 @@ module _ {f : List ℕ} {t : Trailer} {s : List ℕ} {z : Sizes} {rows loads bou
     unfolding onLive under
     pair-is g =
         ⊎-elim
-        (λ (e : ltb (rq .kind) 4 ≡ true). let k = ltb-true _ _ e in rw (receiver-is, no-agent hq k, live-else (λ d. absurd (omega arith))))
-        (λ (e : ltb (rq .kind) 4 ≡ false). rw (receiver-is, agent-is hq (ltb-false _ _ e)))
+        (λ (e : ltb (rq .kind) 4 ≡ true). let k = ltb-true _ _ e in rw (receiver-is, no-agent (ready .array) hq k, live-else (λ d. absurd (omega arith))))
+        (λ (e : ltb (rq .kind) 4 ≡ false). rw (receiver-is, agent-is (ready .array) hq (ltb-false _ _ e)))
         (decided (ltb (rq .kind) 4))
 
     -- ---- figures of a live pair
@@ -243,6 +189,6 @@ module _ {f : List ℕ} {t : Trailer} {s : List ℕ} {z : Sizes} {rows loads bou
       balance-is n h =
           let k = live-sends l in
           ap₂ leb
-          (ap₂ _+_ (ready .weighs (rp .left) n (left-below hp (omega arith)) h) (ready .weighs (rq .left) n (left-below hq (omega arith)) h))
+          (ap₂ _+_ (ready .weighs (rp .left) n (left-below (ready .array) hp (omega arith)) h) (ready .weighs (rq .left) n (left-below (ready .array) hq (omega arith)) h))
           (ap₂ _+_ (weight-is hq (omega arith) n h)
           (ap (λ (x : ℕ). cond (eqb (rp .kind) 5) x 0) (weight-is hp (omega arith) n h) ∙ taken-kind (rp .kind) kp ((T .balance n) .weight p)))

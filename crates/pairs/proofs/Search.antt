@@ -18,8 +18,10 @@ use Rattle.layout.specs.declared.Sizes.{Sizes}
 use Rattle.layout.specs.Table.{tableOf}
 use Rattle.pairs.specs.declared.Pair.{Pair}
 use Rattle.pairs.specs.declared.Pair.the-variants.{Nowhere, At}
-use Rattle.pairs.specs.Pairs.{Reads, Ready, figuresOf, livePair, holdsAt, placeOf, atPair, pairSays}
-use Rattle.pairs.proofs.Laws.{small-arity, arity-is, no-receiver, pair-is}
+use Rattle.arrays.specs.Agents.{Reads}
+use Rattle.arrays.proofs.Agents.{small-arity, arity-is}
+use Rattle.pairs.specs.Pairs.{Ready, figuresOf, livePair, holdsAt, placeOf, atPair, pairSays}
+use Rattle.pairs.proofs.Laws.{no-receiver, pair-is}
 
 -- ---- the searches at a pair, at a receiver and at a figure
 
@@ -88,7 +90,7 @@ module _ {rule : ℕ} {f : List ℕ} {t : Trailer} {s : List ℕ} {z : Sizes} {r
         (clear-first (t .nodes) _ (λ q l.
         let rq : Reads f t q (recordOf f t q) = record { below = l; is = refl } in
         pair-is (h .ready) r k rq (atPair rule (tableOf s z) p q)
-        ∙ clear-under (livePair (arrayOf f t) (tableOf s z) p rp q (recordOf f t q)) _ (λ u. rw (arity-is (h .ready) r, e) (first-zero _))))
+        ∙ clear-under (livePair (arrayOf f t) (tableOf s z) p rp q (recordOf f t q)) _ (λ u. rw (arity-is (h .ready .array) r, e) (first-zero _))))
 
     -- a node without figures
     pub nothing-row : {rp : Record} → Reads f t p rp → figuresOf rule z rp ≡ 0 → AtReceiver rule f t s z rows loads bounds answer (p + 1)
@@ -133,7 +135,7 @@ module _ {rule : ℕ} {f : List ℕ} {t : Trailer} {s : List ℕ} {z : Sizes} {r
     unfolding atPair
     pair-at r =
         pair-is (h .receiver .ready) (h .reads) (h .receives) r (atPair rule (tableOf s z) p q)
-        ∙ rw (h .many, arity-is (h .receiver .ready) (h .reads))
+        ∙ rw (h .many, arity-is (h .receiver .ready .array) (h .reads))
 
     -- a pair that is not live
     pub skip-pair : {rq : Record} → Reads f t q rq → livePair (arrayOf f t) (tableOf s z) p rp q rq ≡ false
@@ -190,5 +192,5 @@ module _ {rule : ℕ} {f : List ℕ} {t : Trailer} {s : List ℕ} {z : Sizes} {r
     small-figure l = go (eqb rule 3) (h .sender .many)
       where
         go : (b : Bool) → count ≡ cond b (rp .arity) (z .balances) → n < 24
-        go true e = omega (arith, small-arity (h .sender .receiver .ready) (h .sender .reads))
+        go true e = omega (arith, small-arity (h .sender .receiver .ready .array) (h .sender .reads))
         go false e = omega (arith, h .sender .receiver .ready .table .laid .fewBalances)

@@ -8,31 +8,18 @@ use lib.ListN.{length, getD}
 use Rattle.laws.specs.Search.{clear, hit, test, first}
 use Rattle.wire.specs.Numbers.{u32At}
 use Rattle.marks.specs.Marks.{marked, inside}
-use Rattle.model.specs.Tree.{Array, Sort, out, inp, resource, Agent, procAt}
+use Rattle.model.specs.Tree.{Array, Agent}
 use Rattle.model.specs.Rules.{Table, Broken, Verdict, at, live, within, loadLeft, weightGone, pairs}
 use Rattle.records.specs.declared.Record.{Record}
 use Rattle.records.specs.declared.Trailer.{Trailer}
 use Rattle.records.specs.Record.{recordOf, argsOf, arrayOf}
 use Rattle.arrays.specs.File.{IsRead}
+use Rattle.arrays.specs.Agents.{agentIn}
 use Rattle.layout.specs.declared.Sizes.{Sizes}
 use Rattle.layout.specs.Table.{balanceAt, rowBit, tableOf, IsTable}
 use Rattle.loads.specs.Loads.{AllLoads}
 use Rattle.pairs.specs.declared.Pair.{Pair}
 use Rattle.pairs.specs.declared.Pair.the-variants.{Nowhere, At}
-
--- ---- agents, by their records
-
-abbrev pub sortOf : ℕ → Sort
-sortOf k = cond (eqb k 4) out (cond (eqb k 5) inp resource)
-
--- the agent that a record of kind 4 or above stands for
-abbrev pub agentIn : Array → Record → Agent
-agentIn a r = record { sort = sortOf (r .kind); channel = r .name; args = argsOf r; body = procAt a (r .left) }
-
--- node i's record is r
-pub record Reads (f : List ℕ) (t : Trailer) (i : ℕ) (r : Record) : Type 0 where
-  pub below : i < t .nodes
-  pub is : r ≡ recordOf f t i
 
 -- the nodes i and j, of the records given, are a live pair
 abbrev pub livePair : Array → Table → ℕ → Record → ℕ → Record → Bool

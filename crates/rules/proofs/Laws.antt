@@ -23,7 +23,8 @@ use Rattle.records.proofs.Laws.{agent-kind, agent-inside, node-of}
 use Rattle.layout.specs.declared.Sizes.{Sizes}
 use Rattle.layout.specs.Table.{claimAt, tableOf, refusal21}
 use Rattle.pairs.specs.declared.Pair.the-variants.{At}
-use Rattle.pairs.specs.Pairs.{Reads, Ready, atPair, pairsOf, pairSays}
+use Rattle.arrays.specs.Agents.{Reads}
+use Rattle.pairs.specs.Pairs.{Ready, atPair, pairsOf, pairSays}
 use Rattle.pairs.proofs.Laws.{weight-is}
 use Rattle.rules.specs.declared.Ruling.{Ruling}
 use Rattle.rules.specs.declared.Ruling.the-variants.{Held, Rule1, Rule2, Rule3, Rule4, Rule5}

@@ -2,7 +2,8 @@
 use Prim.Native.Nat.{_<_}
 use mathlib.Core.Path.{_∙_}
 use borrow.Author.Tests.{eq-eqb, ne-eqb}
-use Rattle.pairs.proofs.Laws.{live-sends, live-arities, arg-below, left-below, row-fits, small-arity, argument-is, balance-is}
+use Rattle.arrays.proofs.Agents.{small-arity, left-below}
+use Rattle.pairs.proofs.Laws.{live-sends, live-arities, arg-below, row-fits, argument-is, balance-is}
 use native.Mathlib.Omega.{arith}
 use Rattle.pairs.proofs.figure_holds.Statement.{statement}
 use Rattle.pairs.proofs.figure_holds.Tie as tie
@@ -16,7 +17,7 @@ argument-holds-requires c κs =
     let same = live-arities (pre .0) (pre .1 .0 .0) (pre .1 .0 .2) (pre .1 .0 .1) (pre .1 .1) in
     let bp = arg-below (pre .0) (pre .1 .0 .0) (omega arith) (x .n) h in
     let bq = arg-below (pre .0) (pre .1 .0 .1) (omega arith) (x .n) (omega arith) in
-    (omega (arith, small-arity (pre .0) (pre .1 .0 .0)), row-fits (pre .0) _ bp, row-fits (pre .0) _ bq)
+    (omega (arith, small-arity (pre .0 .array) (pre .1 .0 .0)), row-fits (pre .0) _ bp, row-fits (pre .0) _ bq)
 
 returns : tie.Need-returns
 returns c =
@@ -33,8 +34,8 @@ balance-holds-requires c κs =
     let sends = live-sends (pre .0) (pre .1 .0 .0) (pre .1 .0 .2) (pre .1 .0 .1) (pre .1 .1) in
     let h : x .n < x .z .balances = rw (ne-eqb _ _ (c .if1 .left)) at (pre .1 .0 .3) in
     let few = pre .0 .array .formed .fewNodes in
-    let lp = left-below (pre .0) (pre .1 .0 .0) (omega arith) in
-    let lq = left-below (pre .0) (pre .1 .0 .1) (omega arith) in
+    let lp = left-below (pre .0 .array) (pre .1 .0 .0) (omega arith) in
+    let lq = left-below (pre .0 .array) (pre .1 .0 .1) (omega arith) in
     let laid = pre .0 .table .laid in
     let read = pre .1 .0 in
     (omega (arith, laid .fewBalances), omega (arith, read .0 .below), omega (arith, read .1 .below), omega arith, omega arith, pre .0 .manyLoads)
