@@ -1,9 +1,32 @@
 -- What the table of free names holds: a row of marks for each node.
-use Prim.Native.Nat.{ℕ, _*_, _≤_, _<_}
+use Prim.Native.Nat.{ℕ, _+_, _*_, _≤_, _<_}
 use mathlib.Core.Path.{_≡_}
+use mathlib.Core.Logic.{_≢_}
+use mathlib.Core.Bool.{Bool, true, false, _||_}
 use mathlib.Core.List.{List}
+use lib.ListN.{length}
+use Rattle.laws.specs.Lists.{has}
 use Rattle.marks.specs.Marks.{marked}
-use Rattle.model.specs.Tree.{Array, procAt, isFree}
+use Rattle.model.specs.Tree.{Array, Node, stop, new, par, choice, agent, procAt, isFree}
+use Rattle.model.specs.Nodes.{freeOf}
+use Rattle.model.specs.Formed.{children}
+
+-- a test passes at some child
+unfoldable pub atChild : (ℕ → Bool) → Node → Bool
+atChild f stop = false
+atChild f (new n l) = f l
+atChild f (par l r) = f l || f r
+atChild f (choice l r) = f l || f r
+atChild f (agent s x ys l) = f l
+
+-- the rows of a node's children are in a table, above row i
+abbrev pub RowsAbove : List ℕ → ℕ → Node → Type 0
+RowsAbove table i n = (c : ℕ) → has (children n) c ≡ true → (i < c) × (4 * c + 3 < length table)
+
+-- row i has the free names of its node by its children's rows; every other row is as it was
+pub record RowFilled (before after : List ℕ) (i : ℕ) (n : Node) : Type 0 where
+  pub row : (v : ℕ) → v < 256 → marked after (4 * i) v ≡ freeOf (λ c. marked before (4 * c) v) n v
+  pub rest : (j v : ℕ) → j ≢ i → v < 256 → marked after (4 * j) v ≡ marked before (4 * j) v
 
 -- from node n on
 abbrev pub FreeFrom : List ℕ → Array → ℕ → Type 0

@@ -1,15 +1,16 @@
 // The free names of all nodes, worked out once, from the last node to the first, into a table that the caller lends: a row of marks
 // for each node. Promises that each entry is that of the process tree. Depends on arrays, scopes, records, marks, model and laws.
 ghost use mathlib.Core.Path.{_≡_};
-ghost use mathlib.Core.Bool.{true, not, _&&_, _||_};
-ghost use Prim.Native.Nat.{ℕ, _+_, _*_, _<_, _≤_};
-ghost use lib.ListN.{length};
+ghost use mathlib.Core.Bool.{true};
+ghost use Prim.Native.Nat.{ℕ, _+_, _*_, _<_};
+ghost use lib.ListN.{length, getD};
 ghost use Rattle.laws.specs.Lists.{has};
-ghost use Rattle.model.specs.Formed.{uses};
+ghost use Rattle.laws.specs.Bits.{bit};
+ghost use Rattle.model.specs.Formed.{children, uses};
 ghost use Rattle.records.specs.Record.{nodeOf, arrayOf};
 ghost use Rattle.marks.specs.Marks.{marked};
 ghost use Rattle.arrays.specs.File.{IsRead};
-ghost use Rattle.frees.specs.Frees.{FreeFrom, AllFree};
+ghost use Rattle.frees.specs.Frees.{atChild, RowsAbove, RowFilled, AllFree};
 use records::Record;
 use records::Trailer;
 
@@ -25,7 +26,10 @@ fn used_by(r: Record) -> [u64; 4]
 }
 
 // Word w of the names free in the children of a node whose record is r.
-fn below(table: &[u64], r: Record, w: usize) -> u64 {
+fn below(table: &[u64], r: Record, w: usize) -> u64
+    requires { ⌜ (w < 4) × ((c : ℕ) → has (children (nodeOf r)) c ≡ true → 4 * c + 3 < length (now table)) ⌝ }
+    ensures { λ x. ⌜ ((k : ℕ) → bit x k ≡ atChild (λ c. bit (getD (now (table .entry)) (4 * c + w) 0) k) (nodeOf r)) ⌝ }
+{
     if r.kind == 0 {
         return 0;
     }
@@ -37,7 +41,10 @@ fn below(table: &[u64], r: Record, w: usize) -> u64 {
 }
 
 // The row of node i, whose record is r, from the rows of its children: what it uses, and what is free below and not bound by it.
-fn fill_row(table: &mut [u64], i: usize, r: Record) {
+fn fill_row(table: &mut [u64], i: usize, r: Record)
+    requires { ⌜ (r .name < 256) × (4 * i + 3 < length (now table)) × RowsAbove (now table) i (nodeOf r) ⌝ }
+    ensures { λ _. ⌜ RowFilled (now (table .entry)) (now (table .exit)) i (nodeOf r) ⌝ }
+{
     let used = used_by(r);
     let bound = scopes::bound_by(r);
     let mut w: usize = 0;

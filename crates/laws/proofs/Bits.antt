@@ -1,4 +1,4 @@
--- The laws of `bit`: the bits of 0, of a power of two, of two numbers or-ed and and-ed, of a number in two parts,
+-- The laws of `bit`: the bits of 0, of a power of two, of two numbers or-ed, and-ed and xor-ed, of a number in two parts,
 -- and what two tests by `and` say of the bits.
 use Prim.Native.Nat.{ℕ, zero, suc, _+_, _*_, _/_, _%_, _^_, _<_}
 use native.Mathlib.Nat.{add-comm, mul-comm, one-mul, zero-div, div-one, pow-suc, mul-div-cancel, mul-mod-left, mod-lt}
@@ -7,8 +7,8 @@ use native.Mathlib.Numerals.{one-add}
 use native.Mathlib.Omega.{arith}
 use mathlib.Core.Path.{_≡_, refl, sym, ap, _∙_}
 use mathlib.Core.Logic.{_⊎_, inl, inr}
-use mathlib.Core.Bool.{Bool, true, false, not, _&&_, _||_, false≢true, true≢false}
-use lib.Bits.{bitAnd, bitOr, and-shr, and-mod, and-le-l, or-shr, or-mod, block-half, block-odd}
+use mathlib.Core.Bool.{Bool, true, false, cond, not, _&&_, _||_, false≢true, true≢false}
+use lib.Bits.{bitAnd, bitOr, bitXor, and-shr, and-mod, and-le-l, or-shr, or-mod, xor-shr, xor-mod, block-half, block-odd}
 use lib.Dec.{eqb, eqb·zero-suc, eqb·suc-zero, eqb·suc-suc}
 use lib.Pow.{pow-pos, shl-exact, shr-shr, high}
 use borrow.Author.Tests.{eqb-true, eq-eqb, ne-eqb}
@@ -63,6 +63,21 @@ bit-or = bit-op bitOr _||_ or-shr or-mod (two-digits (λ x y. eqb (bitOr x y) 1 
 
 pub bit-and : (x y k : ℕ) → bit (bitAnd x y) k ≡ bit x k && bit y k
 bit-and = bit-op bitAnd _&&_ and-shr and-mod (two-digits (λ x y. eqb (bitAnd x y) 1 ≡ eqb x 1 && eqb y 1) refl refl refl refl)
+
+pub bit-xor : (x y k : ℕ) → bit (bitXor x y) k ≡ cond (bit x k) (not (bit y k)) (bit y k)
+bit-xor =
+    bit-op bitXor (λ a b. cond a (not b) b) xor-shr xor-mod
+    (two-digits (λ x y. eqb (bitXor x y) 1 ≡ cond (eqb x 1) (not (eqb y 1)) (eqb y 1)) refl refl refl refl)
+
+-- a number without its bits that are in another
+pub bit-less : (x y k : ℕ) → bit (bitXor x (bitAnd x y)) k ≡ not (bit y k) && bit x k
+bit-less x y k = bit-xor x (bitAnd x y) k ∙ ap (λ (b : Bool). cond (bit x k) (not b) b) (bit-and x y k) ∙ go (bit x k) (bit y k)
+  where
+    go : (a b : Bool) → cond a (not (a && b)) (a && b) ≡ not b && a
+    go true true = refl
+    go true false = refl
+    go false true = refl
+    go false false = refl
 
 -- 1 shifted left inside a word
 pub one-shifted : (k : ℕ) → k < 64 → 1 * 2 ^ k % 2 ^ 64 ≡ 2 ^ k

@@ -3,18 +3,17 @@
 // A check takes 32,768 bytes of stack for one mark per place of an entry: only an entry whose place is marked already is searched
 // for among the earlier ones.
 ghost use mathlib.Core.Path.{_≡_};
-ghost use mathlib.Core.Bool.{Bool, _&&_};
-ghost use Prim.Native.Nat.{ℕ, _+_, _*_, _<_, _≤_};
-ghost use lib.ListN.{length, getD, drop};
-ghost use lib.Dec.{leb};
+ghost use mathlib.Core.Bool.{true};
+ghost use Prim.Native.Nat.{_+_, _*_, _<_, _≤_};
+ghost use lib.ListN.{length, drop};
 ghost use Rattle.laws.specs.Search.{every};
 ghost use Rattle.laws.specs.Lists.{put};
-ghost use Rattle.model.specs.Tree.{nodeAt};
-ghost use Rattle.model.specs.Numbers.{noEntry, sameEntry, position};
-ghost use Rattle.model.specs.Memory.{entryIn, entriesIn, entryNumbers, entryFormed, unlike, isResource, isOut};
+ghost use Rattle.model.specs.Numbers.{sameEntry, position};
+ghost use Rattle.model.specs.Memory.{entryIn, entriesIn, entryNumbers, entryFormed, unlike};
+ghost use Rattle.marks.specs.Marks.{marked, markIf};
 ghost use Rattle.records.specs.Record.{arrayOf};
 ghost use Rattle.arrays.specs.File.{IsRead};
-ghost use Rattle.markers.specs.Markers.{entryOf, slotOf, entriesFormed};
+ghost use Rattle.markers.specs.Markers.{entryOf, kindIs, slotOf, Seen, listed, entriesFormed};
 use records::Trailer;
 
 // A marker entry: resource, out, and the numbers of their markers.
@@ -85,7 +84,10 @@ fn slot_of(e: Entry) -> usize
 }
 
 // Node i has this kind, 4 for an out and 6 for a resource.
-fn has_kind(file: &[u8], t: Trailer, i: usize, kind: usize) -> bool {
+fn has_kind(file: &[u8], t: Trailer, i: usize, kind: usize) -> bool
+    requires { ⌜ IsRead (now file) t ⌝ }
+    ensures { λ b. ⌜ b ≡ kindIs (now (file .entry)) t i kind ⌝ }
+{
     if t.nodes <= i {
         return false;
     }
@@ -103,6 +105,34 @@ fn entry_formed(file: &[u8], t: Trailer, k: usize, e: Entry) -> bool
         & (wide(e.right) <= k)
 }
 
+// The mark of a place.
+fn is_seen(seen: &[u64], slot: usize) -> bool
+    requires { ⌜ (length (now seen) ≡ 4096) × (slot < 262144) ⌝ }
+    ensures { λ b. ⌜ b ≡ marked (now (seen .entry)) 0 slot ⌝ }
+{
+    (seen[slot / 64] >> (slot % 64)) % 2 == 1
+}
+
+// Marks a place.
+fn see(seen: &mut [u64], slot: usize)
+    requires { ⌜ (length (now seen) ≡ 4096) × (slot < 262144) ⌝ }
+    ensures { λ _. ⌜ now (seen .exit) ≡ markIf (now (seen .entry)) true slot ⌝ }
+{
+    seen[slot / 64] = seen[slot / 64] | (1 << (slot % 64));
+}
+
+// One of the first k entries equals e, whose place is `slot`: none does where no entry has marked that place.
+fn is_listed(seen: &[u64], slot: usize, markers: &[u16], k: usize, e: Entry) -> bool
+    requires { ⌜ (length (now seen) ≡ 4096) × (slot < 262144) × (slot ≡ slotOf (entryOf e)) ⌝ }
+    requires { ⌜ (4 * k ≤ length (now markers)) × Seen (now seen) (now markers) k ⌝ }
+    ensures { λ b. ⌜ b ≡ listed (now (markers .entry)) k (entryOf e) ⌝ }
+{
+    if is_seen(seen, slot) {
+        return find_entry(markers, k, e) < k;
+    }
+    false
+}
+
 // No two of the first `count` entries are equal.
 fn entries_unlike(markers: &[u16], count: usize) -> bool
     requires { ⌜ 4 * count ≤ length (now markers) ⌝ }
@@ -113,12 +143,10 @@ fn entries_unlike(markers: &[u16], count: usize) -> bool
     while k < count {
         let e = entry_at(markers, k);
         let slot = slot_of(e);
-        if (seen[slot / 64] >> (slot % 64)) % 2 == 1 {
-            if find_entry(markers, k, e) < k {
-                return false;
-            }
+        if is_listed(&seen, slot, markers, k, e) {
+            return false;
         }
-        seen[slot / 64] = seen[slot / 64] | (1 << (slot % 64));
+        see(&mut seen, slot);
         k += 1;
     }
     true

@@ -35,12 +35,11 @@ pub marked-none : (n at v : ℕ) → marked (replicate n 0) at v ≡ false
 unfolding marked
 marked-none n at v = ap (λ (x : ℕ). bit x (v % 64)) (getD-zeros n (at + v / 64)) ∙ bit-zero (v % 64)
 
--- one name more
-pub marked-more : (row : List ℕ) (on : Bool) (v u : ℕ) → length row ≡ 4 → v < 256 → marked (markIf row on v) 0 u ≡ marked row 0 u || (on && eqb u v)
+-- one name more, in a row of any length
+pub marked-set : (row : List ℕ) (v u : ℕ) → v / 64 < length row → marked (markIf row true v) 0 u ≡ marked row 0 u || eqb u v
 unfolding marked markIf
-marked-more row false v u l h = sym (or-false _)
-marked-more row true v u l h =
-    ap (λ (n : ℕ). bit n (u % 64)) (getD-set row (v / 64) (bitOr (getD row (v / 64) 0) (2 ^ (v % 64))) (0 + u / 64) 0 (omega arith))
+marked-set row v u h =
+    ap (λ (n : ℕ). bit n (u % 64)) (getD-set row (v / 64) (bitOr (getD row (v / 64) 0) (2 ^ (v % 64))) (0 + u / 64) 0 h)
     ∙ go (decided (eqb (0 + u / 64) (v / 64)))
   where
     go : (eqb (0 + u / 64) (v / 64) ≡ true) ⊎ (eqb (0 + u / 64) (v / 64) ≡ false)
@@ -53,6 +52,11 @@ marked-more row true v u l h =
     go (inr e) =
         let q = eqb-false (0 + u / 64) (v / 64) e in
         rw (e, ne-eqb u v (λ p. q (rw p (zero-add _)))) (sym (or-false _))
+
+pub marked-more : (row : List ℕ) (on : Bool) (v u : ℕ) → length row ≡ 4 → v < 256 → marked (markIf row on v) 0 u ≡ marked row 0 u || (on && eqb u v)
+unfolding markIf
+marked-more row false v u l h = sym (or-false _)
+marked-more row true v u l h = marked-set row v u (omega arith)
 
 -- general
 any-four : (f : ℕ → Bool) → any 4 f ≡ f 0 || f 1 || f 2 || f 3

@@ -1,9 +1,9 @@
 -- What a record has for children, binds and uses, by its kind.
-use Prim.Native.Nat.{ℕ, _<_}
+use Prim.Native.Nat.{ℕ}
 use native.Mathlib.Omega.{arith}
 use mathlib.Core.Path.{_≡_, refl, sym, ap, _∙_}
-use mathlib.Core.Bool.{Bool, true, false, cond, _&&_, _||_, or-false, and-assoc}
-use mathlib.Core.List.{List, [], _∷_}
+use mathlib.Core.Bool.{Bool, false, cond, _&&_, _||_, or-false, and-assoc}
+use mathlib.Core.List.{[], _∷_}
 use lib.Dec.{eqb, leb, ltb}
 use lib.ListN.{length, getD}
 use borrow.Author.Tests.{lt-ltb, le-ltb, le-leb}
@@ -40,15 +40,15 @@ module _ (r : Record) where
       by-kind r (λ k n. uses n ≡ cond (ltb k 4) [] (r .name ∷ cond (eqb k 4) (argsOf r) [])) refl refl refl refl refl refl
       (λ k h. rw (le-ltb k 4 (omega arith), kind-above k 4 h (omega arith)))
 
-  -- the parameters, as a loop over the argument bytes finds them
-  abbrev pub paramAt : ℕ → ℕ → Bool
-  paramAt v k = (leb 5 (r .kind) && ltb k (r .arity)) && eqb v (getD (r .args) k 0)
+  -- the arguments where b is true, as a loop over the argument bytes finds them
+  abbrev pub argAt : Bool → ℕ → ℕ → Bool
+  argAt b v k = (b && ltb k (r .arity)) && eqb v (getD (r .args) k 0)
 
-  pub params-found : (v : ℕ) → length (r .args) ≡ 8 → any 8 (paramAt v) ≡ isParam r v
-  params-found v l =
-      any-same 8 (paramAt v) (λ k. leb 5 (r .kind) && here k) (λ k h. and-assoc (leb 5 (r .kind)) (ltb k (r .arity)) (eqb v (getD (r .args) k 0)))
-      ∙ any-under 8 (leb 5 (r .kind)) here
-      ∙ ap (λ (b : Bool). leb 5 (r .kind) && b) (ap (λ (n : ℕ). any n here) (sym l) ∙ sym (has-take v 0 (r .args) (r .arity)))
+  pub args-found : (b : Bool) (v : ℕ) → length (r .args) ≡ 8 → any 8 (argAt b v) ≡ b && has (argsOf r) v
+  args-found b v l =
+      any-same 8 (argAt b v) (λ k. b && here k) (λ k h. and-assoc b (ltb k (r .arity)) (eqb v (getD (r .args) k 0)))
+      ∙ any-under 8 b here
+      ∙ ap (λ (c : Bool). b && c) (ap (λ (n : ℕ). any n here) (sym l) ∙ sym (has-take v 0 (r .args) (r .arity)))
     where
       here : ℕ → Bool
       here k = ltb k (r .arity) && eqb v (getD (r .args) k 0)

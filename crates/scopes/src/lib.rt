@@ -2,7 +2,7 @@
 // Promises the model's refusal12 of the array that the bytes stand for, where 8 and 9 have passed.
 // Depends on records, marks, model and laws. The table takes 32,768 bytes of stack.
 ghost use mathlib.Core.Path.{_≡_};
-ghost use mathlib.Core.Bool.{true, _||_};
+ghost use mathlib.Core.Bool.{true, _&&_, _||_};
 ghost use Prim.Native.Nat.{ℕ, _+_, _*_, _<_, _≤_};
 ghost use lib.ListN.{length};
 ghost use Rattle.laws.specs.Search.{clear};
@@ -10,33 +10,33 @@ ghost use Rattle.laws.specs.Lists.{all, has};
 ghost use Rattle.model.specs.Formed.{children, binds, uses, inReach, refusal8, refusal9, refusal12};
 ghost use Rattle.records.specs.Record.{argsOf, nodeOf, arrayOf, foundOf};
 ghost use Rattle.marks.specs.Marks.{marked};
-ghost use Rattle.scopes.specs.Scope.{isParam, passed, passIf, HandedDown};
+ghost use Rattle.scopes.specs.Scope.{passed, passIf, HandedDown};
 use records::Check;
 use records::Record;
 use records::Refusal;
 use records::Trailer;
 
-// Marks the parameters that a record binds.
-fn mark_params(row: &mut [u64], r: Record)
+// Marks the arguments of a record where `on` is true.
+pub fn mark_args(row: &mut [u64], on: bool, r: Record)
     requires { ⌜ length (now row) ≡ 4 ⌝ }
-    ensures { λ _. ⌜ ((v : ℕ) → v < 256 → marked (now (row .exit)) 0 v ≡ marked (now (row .entry)) 0 v || isParam r v) ⌝ }
+    ensures { λ _. ⌜ ((v : ℕ) → v < 256 → marked (now (row .exit)) 0 v ≡ marked (now (row .entry)) 0 v || (on && has (argsOf r) v)) ⌝ }
 {
     let args = r.args;
     let mut k: usize = 0;
     while k < 8 {
-        marks::mark_if(row, (5 <= r.kind) & (k < r.arity), records::wide(args[k]));
+        marks::mark_if(row, on & (k < r.arity), records::wide(args[k]));
         k += 1;
     }
 }
 
 // The names that a record binds, marked.
-fn bound_by(r: Record) -> [u64; 4]
+pub fn bound_by(r: Record) -> [u64; 4]
     requires { ⌜ r .name < 256 ⌝ }
     ensures { λ row. ⌜ ((v : ℕ) → v < 256 → marked row 0 v ≡ has (binds (nodeOf r)) v) ⌝ }
 {
     let mut row = [0u64; 4];
     marks::mark_if(&mut row, r.kind == 1, r.name);
-    mark_params(&mut row, r);
+    mark_args(&mut row, 5 <= r.kind, r);
     row
 }
 

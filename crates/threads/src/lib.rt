@@ -1,21 +1,19 @@
 // Threads in a lent list of words: copied, bound, moved together, and checked (the part of refusal 23 that is about threads).
 // Promises equations with the model's threads. Depends on frees, arrays, records, marks, wire, model and laws.
 ghost use mathlib.Core.Path.{_≡_};
-ghost use mathlib.Core.Bool.{Bool, true};
 ghost use mathlib.Core.List.{map};
 ghost use Prim.Native.Nat.{ℕ, _+_, _*_, _<_, _≤_};
 ghost use lib.ListN.{length, getD, take, drop};
-ghost use lib.Dec.{eqb};
 ghost use Rattle.laws.specs.Search.{every};
 ghost use Rattle.laws.specs.Lists.{All, put};
 ghost use Rattle.marks.specs.Marks.{marked};
-ghost use Rattle.model.specs.Tree.{nodeAt, isAgent, isNew, isFree, procAt};
+ghost use Rattle.model.specs.Tree.{isNew};
 ghost use Rattle.model.specs.Calculus.{bind, keep};
-ghost use Rattle.model.specs.Memory.{threadIn, threadsIn, wordsOf, wordFormed, threadFormed};
+ghost use Rattle.model.specs.Memory.{threadIn, threadsIn, wordsOf, threadFormed};
 ghost use Rattle.records.specs.Record.{argsOf, arrayOf};
 ghost use Rattle.arrays.specs.File.{IsRead};
 ghost use Rattle.frees.specs.Frees.{AllFree};
-ghost use Rattle.threads.specs.Threads.{remains, threadsFormed};
+ghost use Rattle.threads.specs.Threads.{remains, wordsIf, wordOk, threadsFormed};
 use records::Record;
 use records::Trailer;
 
@@ -45,6 +43,22 @@ pub fn copy_words(threads: &[u32], from: usize, env: &mut [u32])
     }
 }
 
+// Moves one thread down where it stays, and returns where the next one goes. Before the first that goes, threads are in place.
+fn keep_if(threads: &mut [u32], stays: bool, from: usize, to: usize, width: usize) -> usize
+    requires { ⌜ (to ≤ from) × (from + width ≤ length (now threads)) ⌝ }
+    ensures { λ e. ⌜ (now (threads .exit) ≡ put to (wordsIf stays from width (now (threads .entry))) (now (threads .entry)))
+        × (e ≡ to + length (wordsIf stays from width (now (threads .entry)))) ⌝ }
+{
+    if !stays {
+        return to;
+    }
+    if to == from {
+        return to + width;
+    }
+    move_down(threads, from, to, width);
+    to + width
+}
+
 // Moves the threads that stay together, in order, and returns the words that they use. Nothing is written at or past those words.
 pub fn keep_threads(
     threads: &mut [u32],
@@ -63,12 +77,7 @@ pub fn keep_threads(
     let mut to: usize = 0;
     let mut i: usize = 0;
     while i < count {
-        if (i != s) & (resource | (i != r)) {
-            if to < from {
-                move_down(threads, from, to, width);
-            }
-            to += width;
-        }
+        to = keep_if(threads, (i != s) & (resource | (i != r)), from, to, width);
         from += width;
         i += 1;
     }
@@ -98,6 +107,7 @@ pub fn bind_params(p: Record, q: Record, sent: &[u32], env: &mut [u32])
 // `marks`.
 fn word_formed(news: &[u64], marks: usize, free: bool, x: u32) -> bool
     requires { ⌜ length (now news) ≡ 4 ⌝ }
+    ensures { λ b. ⌜ b ≡ wordOk (marked (now (news .entry)) 0) marks free x ⌝ }
 {
     if !free {
         return x == 0;
@@ -123,7 +133,11 @@ fn names_formed(
     i: usize,
     threads: &[u32],
     at: usize,
-) -> bool {
+) -> bool
+    requires { ⌜ (4 * i + 3 < length (now table)) × (length (now news) ≡ 4) × (names ≤ 256) × (at + names ≤ length (now threads)) ⌝ }
+    ensures { λ b. ⌜ b ≡ every names (λ v.
+        wordOk (marked (now (news .entry)) 0) marks (marked (now (table .entry)) (4 * i) v) (getD (now (threads .entry)) (at + v) 0)) ⌝ }
+{
     let mut v: usize = 0;
     while v < names {
         let free = marks::is_marked(table, 4 * i, v);
@@ -144,7 +158,12 @@ fn thread_formed(
     marks: usize,
     threads: &[u32],
     at: usize,
-) -> bool {
+) -> bool
+    requires { ⌜ IsRead (now file) t × (at + (2 + t .names) ≤ length (now threads)) ⌝ }
+    requires { ⌜ (length (now table) ≡ 4096) × AllFree (now table) (arrayOf (now file) t) ⌝ }
+    requires { ⌜ (length (now news) ≡ 4) × ((o : ℕ) → marked (now news) 0 o ≡ isNew (arrayOf (now file) t) o) ⌝ }
+    ensures { λ b. ⌜ b ≡ threadFormed (arrayOf (now (file .entry)) t) marks (threadIn (t .names) (drop at (now (threads .entry)))) ⌝ }
+{
     let i = wire::wide(threads[at]);
     if t.nodes <= i {
         return false;

@@ -6,7 +6,7 @@ use lib.ListN.{length}
 use Rattle.laws.specs.Lists.{put}
 use Rattle.model.specs.Tree.{procAt}
 use Rattle.model.specs.Calculus.{Config, choicesOf, unfoldProc}
-use Rattle.model.specs.Memory.{words, wordsOf}
+use Rattle.model.specs.Memory.{words}
 use Rattle.records.specs.declared.Trailer.{Trailer}
 use Rattle.records.specs.Record.{arrayOf}
 

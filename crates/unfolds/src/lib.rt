@@ -1,6 +1,7 @@
 // Unfolding a node into threads, in place: first counted, then written. Recursive; the environment is changed at a new and put back.
 // Promises the words of the model's unfolding. Depends on frees, arrays, records, marks, model and laws.
 ghost use mathlib.Core.Path.{_≡_};
+ghost use mathlib.Core.Bool.{cond};
 ghost use mathlib.Core.List.{[], _∷_};
 ghost use Prim.Native.Nat.{_+_, _*_, _/_, _<_, _≤_, min};
 ghost use lib.ListN.{length};
@@ -51,6 +52,16 @@ pub fn count_threads(file: &[u8], t: Trailer, choices: &[u8], i: usize) -> usize
     1
 }
 
+// A name's word where it is kept, else 0.
+fn word_if(on: bool, x: u32) -> u32
+    ensures { λ r. ⌜ r ≡ cond on x 0 ⌝ }
+{
+    if on {
+        return x;
+    }
+    0
+}
+
 // Writes the words of the names from index `at` on, cut to those marked in the row at `row`.
 fn write_names(table: &[u64], row: usize, env: &[u32], threads: &mut [u32], at: usize)
     requires { ⌜ (row + 3 < length (now table)) × (length (now env) ≤ 256) × (at + length (now env) ≤ length (now threads)) ⌝ }
@@ -58,11 +69,8 @@ fn write_names(table: &[u64], row: usize, env: &[u32], threads: &mut [u32], at: 
 {
     let mut v: usize = 0;
     while v < env.len() {
-        threads[at + v] = if marks::is_marked(table, row, v) {
-            env[v]
-        } else {
-            0
-        };
+        let on = marks::is_marked(table, row, v);
+        threads[at + v] = word_if(on, env[v]);
         v += 1;
     }
 }
@@ -70,7 +78,8 @@ fn write_names(table: &[u64], row: usize, env: &[u32], threads: &mut [u32], at: 
 // Writes a thread of node i from index `at` on.
 fn write_thread(table: &[u64], i: usize, mark: u32, env: &[u32], threads: &mut [u32], at: usize)
     requires { ⌜ (4 * i + 3 < length (now table)) × (i < 1024) × (length (now env) ≤ 256) × (at + 2 + length (now env) ≤ length (now threads)) ⌝ }
-    ensures { λ _. ⌜ now (threads .exit) ≡ put at (i ∷ mark ∷ cutFrom (words []) (marked (now (table .entry)) (4 * i)) 0 (now (env .entry))) (now (threads .entry)) ⌝ }
+    ensures { λ _. ⌜ now (threads .exit)
+        ≡ put at (i ∷ mark ∷ cutFrom (words []) (marked (now (table .entry)) (4 * i)) 0 (now (env .entry))) (now (threads .entry)) ⌝ }
 {
     threads[at] = i as u32;
     threads[at + 1] = mark;
@@ -92,7 +101,8 @@ pub fn unfold_node(
     requires { ⌜ IsRead (now file) t × (i < t .nodes) × (length (now choices) ≡ 128) × (mark < 65536) × (length (now env) ≡ t .names) ⌝ }
     requires { ⌜ (length (now table) ≡ 4096) × AllFree (now table) (arrayOf (now file) t) ⌝ }
     requires { ⌜ at + length (wordsOf (unfolded (now file) t (now choices) i mark (now env))) ≤ length (now threads) ⌝ }
-    ensures { λ r. ⌜ Laid (wordsOf (unfolded (now (file .entry)) t (now (choices .entry)) i mark (now (env .entry)))) (now (env .entry)) (now (env .exit)) (now (threads .entry)) (now (threads .exit)) at r ⌝ }
+    ensures { λ r. ⌜ Laid (wordsOf (unfolded (now (file .entry)) t (now (choices .entry)) i mark (now (env .entry))))
+        (now (env .entry)) (now (env .exit)) (now (threads .entry)) (now (threads .exit)) at r ⌝ }
 {
     let r = records::record_at(file, t.start + 16 * i);
     if r.kind == 0 {

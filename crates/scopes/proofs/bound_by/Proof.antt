@@ -19,19 +19,19 @@ slice-aggregate-mark-if c = search needs
 mark-if-requires : tie.Need-mark-if-requires
 mark-if-requires c κs = search needs
 
-slice-aggregate-mark-params : tie.Need-slice-aggregate-mark-params
-slice-aggregate-mark-params c = search needs
+slice-aggregate-mark-args : tie.Need-slice-aggregate-mark-args
+slice-aggregate-mark-args c = search needs
 
-mark-params-requires : tie.Need-mark-params-requires
-mark-params-requires c κs = search needs
+mark-args-requires : tie.Need-mark-args-requires
+mark-args-requires c κs = search needs
 
 returns : tie.Need-returns
 returns c v h =
-    let start = c .before .before .before .before .before .before .before in
+    let start = c .before .before .before .before .before .before .before .before in
     let r = start .args .r in
-    c .before .mark-params .ensures v h
+    c .before .mark-args .ensures v h
     ∙ ap (λ (b : Bool). b || isParam r v)
-    (ap (λ (row : List ℕ). marked row 0 v) (c .before .before .before .before .mark-if .ensures)
+    (ap (λ (row : List ℕ). marked row 0 v) (c .before .before .before .before .before .mark-if .ensures)
     ∙ marked-more (replicate 4 0) (eqb (r .kind) 1) (r .name) v refl (start .pre)
     ∙ ap (λ (b : Bool). b || (eqb (r .kind) 1 && eqb v (r .name))) (marked-none 4 0 v))
     ∙ sym (binds-of r v)
@@ -42,6 +42,6 @@ bound-by-spec =
     (tie.spec
     slice-aggregate-mark-if
     mark-if-requires
-    slice-aggregate-mark-params
-    mark-params-requires
+    slice-aggregate-mark-args
+    mark-args-requires
     returns)

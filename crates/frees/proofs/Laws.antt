@@ -1,0 +1,159 @@
+-- The free names of a node from what it uses, what it binds and what is free in its children; and the table while node i's row is filled.
+use Prim.Native.Nat.{ℕ, _+_, _*_, _/_, _%_, _<_}
+use native.Mathlib.Nat.{eq-or-lt-of-le, zero-add}
+use native.Mathlib.Omega.{arith}
+use mathlib.Core.Path.{_≡_, refl, sym, ap, ap₂, _∙_}
+use mathlib.Core.Logic.{_≢_, ⊎-elim}
+use mathlib.Core.Bool.{Bool, true, false, not, _&&_, _||_, or-false, or-assoc}
+use mathlib.Core.List.{List, [], _∷_}
+use lib.Bits.{bitAnd, bitOr, bitXor}
+use lib.Dec.{eqb, leb, ltb}
+use lib.ListN.{length, getD, set}
+use lib.Seq.{getD-set-same, getD-set-other}
+use borrow.Author.Tests.{eqb-false, le-leb, eq-eqb, lt-ltb}
+use Rattle.laws.specs.Search.{clear}
+use Rattle.laws.specs.Lists.{has}
+use Rattle.laws.specs.Bits.{bit}
+use Rattle.laws.proofs.Search.{and-join, or-left, or-right}
+use Rattle.laws.proofs.Lists.{has-here, has-later}
+use Rattle.laws.proofs.Bits.{bit-or, bit-less}
+use Rattle.marks.specs.Marks.{marked}
+use Rattle.model.specs.Tree.{Array, Sort, Node, out, inp, resource, freeBelow, nodeAt, procAt, isFree}
+use Rattle.model.specs.Nodes.{freeOf}
+use Rattle.model.specs.Formed.{children, params, binds, sent, uses, refusal8}
+use Rattle.model.proofs.Tree.{child-above}
+use Rattle.model.proofs.Nodes.{free-at}
+use Rattle.records.specs.declared.Record.{Record}
+use Rattle.records.specs.Record.{argsOf, nodeOf}
+use Rattle.records.proofs.Laws.{by-kind, kind-above}
+use Rattle.scopes.proofs.Laws.{children-of}
+use Rattle.frees.specs.Frees.{atChild, RowFilled, FreeFrom}
+
+-- ---- a node's free names
+
+agent-split : (s : Sort) (a : Bool) (ys : List ℕ) (v : ℕ) (b : Bool)
+    → a || freeBelow s (has ys v) b ≡ (a || has (sent s ys) v) || (not (has (params s ys) v) && b)
+unfolding freeBelow sent params has
+agent-split out a ys v b = sym (or-assoc a (has ys v) b)
+agent-split inp a ys v b = ap (λ (c : Bool). c || (not (has ys v) && b)) (sym (or-false a))
+agent-split resource a ys v b = ap (λ (c : Bool). c || (not (has ys v) && b)) (sym (or-false a))
+
+pub free-split : (f : ℕ → Bool) (n : Node) (v : ℕ) → freeOf f n v ≡ has (uses n) v || (not (has (binds n) v) && atChild f n)
+unfolding freeOf uses binds atChild has
+free-split f Node.stop v = refl
+free-split f (Node.new n l) v = ap (λ (b : Bool). not b && f l) (sym (or-false (eqb v n)))
+free-split f (Node.par l r) v = refl
+free-split f (Node.choice l r) v = refl
+free-split f (Node.agent s x ys l) v = agent-split s (eqb v x) ys v (f l)
+
+-- tests that agree at the children
+pub child-agree : (f g : ℕ → Bool) (n : Node) → ((c : ℕ) → has (children n) c ≡ true → f c ≡ g c) → atChild f n ≡ atChild g n
+unfolding atChild children
+child-agree f g Node.stop h = refl
+child-agree f g (Node.new n l) h = h l (has-here l [])
+child-agree f g (Node.par l r) h = ap₂ _||_ (h l (has-here l (r ∷ []))) (h r (has-later l (r ∷ []) r (has-here r [])))
+child-agree f g (Node.choice l r) h = ap₂ _||_ (h l (has-here l (r ∷ []))) (h r (has-later l (r ∷ []) r (has-here r [])))
+child-agree f g (Node.agent s x ys l) h = h l (has-here l [])
+
+-- ---- a record's uses and children, by its kind
+
+module _ (r : Record) where
+  pub used-of : (v : ℕ) → has (uses (nodeOf r)) v ≡ (leb 4 (r .kind) && eqb v (r .name)) || (eqb (r .kind) 4 && has (argsOf r) v)
+  unfolding uses sent has
+  used-of v =
+      by-kind r (λ k n. has (uses n) v ≡ (leb 4 k && eqb v (r .name)) || (eqb k 4 && has (argsOf r) v)) refl refl refl refl refl refl
+      (λ k h. rw (kind-above k 4 h (omega arith), le-leb 4 k (omega arith)))
+
+  pub left-child : eqb (r .kind) 0 ≡ false → has (children (nodeOf r)) (r .left) ≡ true
+  left-child e =
+      let z = eqb-false (r .kind) 0 e in
+      children-of r (r .left) ∙ or-left _ _ (and-join (lt-ltb 0 (r .kind) (omega arith)) (eq-eqb (r .left) (r .left) refl))
+
+  pub right-child : eqb (r .kind) 2 || eqb (r .kind) 3 ≡ true → has (children (nodeOf r)) (r .right) ≡ true
+  right-child e =
+      children-of r (r .right)
+      ∙ or-right (ltb 0 (r .kind) && eqb (r .right) (r .left)) _ (and-join e (eq-eqb (r .right) (r .right) refl))
+
+  -- a test at some child, by the kind
+  pub child-kind : (f : ℕ → Bool) → atChild f (nodeOf r) ≡ not (eqb (r .kind) 0) && (f (r .left) || ((eqb (r .kind) 2 || eqb (r .kind) 3) && f (r .right)))
+  unfolding atChild
+  child-kind f =
+      by-kind r (λ k n. atChild f n ≡ not (eqb k 0) && (f (r .left) || ((eqb k 2 || eqb k 3) && f (r .right))))
+      refl (sym (or-false _)) refl refl (sym (or-false _)) (sym (or-false _))
+      (λ k h. rw (kind-above k 0 h (omega arith), kind-above k 2 h (omega arith), kind-above k 3 h (omega arith)) (sym (or-false _)))
+
+-- ---- the table while row i is filled
+
+-- every word outside row i is as it was
+abbrev pub SameElse : List ℕ → List ℕ → ℕ → Type 0
+SameElse before after i = (j k : ℕ) → j ≢ i → k < 4 → getD after (4 * j + k) 0 ≡ getD before (4 * j + k) 0
+
+-- the first n words of row i are right
+abbrev pub RowTo : List ℕ → List ℕ → ℕ → Node → ℕ → Type 0
+RowTo before after i m n = (v : ℕ) → v < 64 * n → marked after (4 * i) v ≡ freeOf (λ c. marked before (4 * c) v) m v
+
+module _ (before after : List ℕ) (i w : ℕ) (few : w < 4) (same : SameElse before after i) where
+  pub else-set : (x : ℕ) → SameElse before (set after (4 * i + w) x) i
+  else-set x j k ne h = getD-set-other after (4 * i + w) (4 * j + k) x 0 (λ e. ne (omega arith)) ∙ same j k ne h
+
+  -- word w is written, by what is free below it
+  module _ (fits : 4 * i + w < length after) (n : Node) (above : (c : ℕ) → has (children n) c ≡ true → i < c)
+      (used bound : List ℕ) (uses-right : (v : ℕ) → v < 256 → marked used 0 v ≡ has (uses n) v)
+      (binds-right : (v : ℕ) → v < 256 → marked bound 0 v ≡ has (binds n) v)
+      (x : ℕ) (below : (k : ℕ) → bit x k ≡ atChild (λ c. bit (getD after (4 * c + w) 0) k) n) where
+    abbrev word : ℕ
+    word = bitOr (getD used w 0) (bitXor x (bitAnd x (getD bound w 0)))
+
+    here : (v : ℕ) → v < 256 → v / 64 ≡ w → bit word (v % 64) ≡ freeOf (λ c. marked before (4 * c) v) n v
+    unfolding marked
+    here v h q =
+        bit-or (getD used w 0) (bitXor x (bitAnd x (getD bound w 0))) (v % 64)
+        ∙ ap₂ _||_ (own used ∙ uses-right v h)
+        (bit-less x (getD bound w 0) (v % 64)
+        ∙ ap₂ (λ (a b : Bool). not a && b) (own bound ∙ binds-right v h)
+        (below (v % 64) ∙ child-agree _ (λ c. marked before (4 * c) v) n (λ c g. kept c (above c g))))
+        ∙ sym (free-split (λ c. marked before (4 * c) v) n v)
+      where
+        own : (l : List ℕ) → bit (getD l w 0) (v % 64) ≡ bit (getD l (0 + v / 64) 0) (v % 64)
+        own l = rw (zero-add, q)
+
+        kept : (c : ℕ) → i < c → bit (getD after (4 * c + w) 0) (v % 64) ≡ bit (getD before (4 * c + v / 64) 0) (v % 64)
+        kept c g = rw q (ap (λ (y : ℕ). bit y (v % 64)) (same c w (λ e. absurd (omega arith)) few))
+
+    pub row-set : RowTo before after i n w → RowTo before (set after (4 * i + w) word) i n (w + 1)
+    unfolding marked
+    row-set row v h =
+        ⊎-elim
+        (λ (q : v / 64 ≡ w).
+        ap (λ (m : ℕ). bit (getD (set after (4 * i + w) word) (4 * i + m) 0) (v % 64)) q
+        ∙ ap (λ (y : ℕ). bit y (v % 64)) (getD-set-same after (4 * i + w) word 0 fits) ∙ here v (omega arith) q)
+        (λ (l : v / 64 < w).
+        ap (λ (y : ℕ). bit y (v % 64)) (getD-set-other after (4 * i + w) (4 * i + v / 64) word 0 (λ q. absurd (omega arith)))
+        ∙ row v (omega arith))
+        (eq-or-lt-of-le (omega arith))
+
+pub row-filled : (before after : List ℕ) (i : ℕ) (n : Node) → SameElse before after i → RowTo before after i n 4 → RowFilled before after i n
+unfolding marked
+row-filled before after i n same row = record {
+  row = λ v h. row v (omega arith);
+  rest = λ j v ne h. ap (λ (y : ℕ). bit y (v % 64)) (same j (v / 64) ne (omega arith));
+}
+
+-- ---- the free names of the process tree
+
+free-agree : (f g : ℕ → Bool) (n : Node) (v : ℕ) → ((c : ℕ) → has (children n) c ≡ true → f c ≡ g c) → freeOf f n v ≡ freeOf g n v
+free-agree f g n v h =
+    free-split f n v ∙ ap (λ (b : Bool). has (uses n) v || (not (has (binds n) v) && b)) (child-agree f g n h) ∙ sym (free-split g n v)
+
+module _ (a : Array) (ok : refusal8 a ≡ clear) (i : ℕ) (h : i < a .size) (before after : List ℕ) (free : FreeFrom before a (i + 1)) where
+  pub free-row : RowFilled before after i (nodeAt a i) → FreeFrom after a i
+  free-row filled j v l k b =
+      ⊎-elim
+      (λ (q : i ≡ j).
+      rw (← q)
+      (filled .row v b
+      ∙ free-agree _ (λ c. isFree (procAt a c) v) (nodeAt a i) v
+      (λ c g. let f = child-above a ok i c g in free c v (omega (arith, f .0)) (f .1) b)
+      ∙ sym (free-at a ok i h v)))
+      (λ (m : i < j). filled .rest j v (λ e. absurd (omega arith)) b ∙ free j v (omega arith) k b)
+      (eq-or-lt-of-le l)

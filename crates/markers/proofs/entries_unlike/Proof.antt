@@ -1,0 +1,113 @@
+-- `markers::entries_unlike` meets its contract. The loop's invariant: the places of the first k entries are marked, and these are unlike.
+use Prim.Native.Nat.{_-_, _≤_}
+use native.Mathlib.Nat.{not-suc-le-zero}
+use mathlib.Core.Path.{_≡_, refl, sym, ap, _∙_}
+use mathlib.Core.Bool.{true, not}
+use denote.Ref.{now}
+use lib.ListN.{length}
+use native.Mathlib.Omega.{arith}
+use borrow.Author.Needs.{needs}
+use Rattle.laws.specs.Search.{every}
+use Rattle.laws.proofs.Search.{and-join, every-zero, every-step}
+use Rattle.marks.proofs.Laws.{markIf-length}
+use Rattle.model.specs.Memory.{entriesIn, unlike}
+use Rattle.markers.specs.Markers.{slotOf, Seen, listed}
+use Rattle.markers.proofs.Laws.{every-stops, seen-more, unlike-listed}
+use Rattle.markers.proofs.entries_unlike.Statement.{statement}
+use Rattle.markers.proofs.entries_unlike.Tie as tie
+
+abbrev Inv-loop : tie.InvT-loop
+Inv-loop markers count seen₀ k₀ seen k =
+    (k ≤ count) × (length seen ≡ 4096) × Seen seen markers k × (every k (unlike (entriesIn count markers)) ≡ true)
+
+abbrev μ-loop : tie.MeasureT-loop
+μ-loop markers count seen₀ k₀ seen k = count - k
+
+-- what the search answers for entry k is what the definition asks of it
+tested :
+    (c : tie.After-is-listed Inv-loop μ-loop)
+    → let l = c .before .before .before .before .before in
+    let x = l .before .before .args in
+    unlike (entriesIn (x .count) (now (x .markers))) (l .loop .k) ≡ not (c .is-listed .result)
+tested c =
+    let l = c .before .before .before .before .before in
+    let x = l .before .before .args in
+    let s = now (x .markers) in
+    unlike-listed s (l .loop .k) (x .count) (omega arith)
+    ∙ ap not (ap (listed s (l .loop .k)) (sym (c .before .before .before .entry-at .ensures)) ∙ sym (c .is-listed .ensures))
+
+loop-holds : tie.Need-loop-holds Inv-loop μ-loop
+loop-holds c = (omega arith, refl, λ j h. absurd (not-suc-le-zero h), every-zero _)
+
+entry-at-requires : tie.Need-entry-at-requires Inv-loop μ-loop
+entry-at-requires c κs = search needs
+
+slot-of-requires : tie.Need-slot-of-requires Inv-loop μ-loop
+slot-of-requires c κs = search needs
+
+slice-aggregate-is-listed : tie.Need-slice-aggregate-is-listed Inv-loop μ-loop
+slice-aggregate-is-listed c = search needs
+
+is-listed-requires : tie.Need-is-listed-requires Inv-loop μ-loop
+is-listed-requires c κs =
+    let l = c .before .before .before .before .loop in
+    let slot = c .before .slot-of .ensures in
+    ((l .inv .1, slot .1, slot .0), (omega arith, l .inv .2))
+
+returns : tie.Need-returns Inv-loop μ-loop
+returns c =
+    let x = c .before .before .before .before .before .before .before .before .args in
+    let k = c .before .before .before .before .before .before .loop .k in
+    sym (every-stops (x .count) (unlike (entriesIn (x .count) (now (x .markers)))) k (omega arith) (tested (c .before) ∙ ap not (c .if1 .taken)))
+
+slice-aggregate-see : tie.Need-slice-aggregate-see Inv-loop μ-loop
+slice-aggregate-see c = search needs
+
+see-requires : tie.Need-see-requires Inv-loop μ-loop
+see-requires c κs = (c .before .before .before .before .before .before .before .loop .inv .1, c .before .before .before .before .slot-of .ensures .1)
+
+add-k : tie.Need-add-k Inv-loop μ-loop
+add-k c = search needs
+
+loop-less : tie.Need-loop-less Inv-loop μ-loop
+loop-less c = search needs
+
+loop-again : tie.Need-loop-again Inv-loop μ-loop
+loop-again c =
+    let x = c .before .before .before .before .before .before .before .before .before .before .before .args in
+    let l = c .before .before .before .before .before .before .before .before .before .loop in
+    let slot = c .before .before .before .before .before .before .slot-of in
+    let s = c .before .see .ensures in
+    let place = slot .ensures .0 ∙ ap slotOf (c .before .before .before .before .before .before .before .entry-at .ensures) in
+    let new = tested (c .before .before .before .before) ∙ ap not (c .before .before .before .if1 .left) in (
+      omega arith,
+      ap length s ∙ markIf-length _ _ _ ∙ l .inv .1,
+      rw s (seen-more (l .seen) (now (x .markers)) (l .k) (l .inv .2) (slot .result) (l .inv .1) (slot .ensures .1) place),
+      every-step (unlike (entriesIn (x .count) (now (x .markers)))) (l .k) ∙ and-join (l .inv .3) new,
+    )
+
+returns-2 : tie.Need-returns-2 Inv-loop μ-loop
+returns-2 c =
+    let x = c .before .before .before .args in
+    let l = c .before .loop in
+    let e : l .k ≡ x .count = omega arith in
+    sym (rw e at (l .inv .3))
+
+pub entries-unlike-spec : {M : Type 1} → statement M
+entries-unlike-spec =
+    tie.close
+    (tie.spec
+    Inv-loop
+    μ-loop
+    loop-holds
+    entry-at-requires
+    slot-of-requires
+    slice-aggregate-is-listed
+    is-listed-requires
+    returns
+    slice-aggregate-see
+    see-requires
+    add-k
+    loop-less
+    loop-again
+    returns-2)

@@ -1,0 +1,66 @@
+-- The step of a ready pair on lent lists: its two threads, what it leaves, and what a call answers and leaves.
+use Prim.Native.Nat.{ℕ, _+_, _*_, _≤_, _<_}
+use mathlib.Core.Path.{_≡_}
+use mathlib.Core.Bool.{Bool}
+use mathlib.Core.List.{List, [], _++_, map}
+use mathlib.Core.Option.{Option, none, some}
+use lib.Dec.{leb}
+use lib.ListN.{length, getD}
+use Rattle.model.specs.Tree.{Array, agentAt}
+use Rattle.model.specs.Calculus.{Choices, Thread, Config, Attempt, bind, keep, choicesOf, markerOf}
+use Rattle.model.specs.Numbers.{nobody}
+use Rattle.model.specs.Memory.{Memory, Result, stops, leaves, words, threadsIn, configOf, entriesOf, try}
+use Rattle.records.specs.declared.Record.{Record}
+use Rattle.records.specs.declared.Trailer.{Trailer}
+use Rattle.records.specs.Record.{argsOf, arrayOf}
+use Rattle.arrays.specs.Agents.{Reads}
+use Rattle.unfolds.specs.Unfold.{unfolded}
+use Rattle.threads.specs.Threads.{remains}
+use Rattle.steps.specs.declared.Fired.{Fired}
+use Rattle.steps.specs.declared.Fired.the-variants.{Stopped, Made}
+
+-- ---- lent lists
+
+abbrev pub memory : List ℕ → ℕ → List ℕ → ℕ → Memory
+memory l k ml j = record { threads = l; threadCount = k; markers = ml; markerCount = j }
+
+-- ---- a pair
+
+-- threads r and s of the first `count` are a receiver and a sender of equal arity, and p and q are the records of their agents
+pub record Pair (f : List ℕ) (t : Trailer) (l : List ℕ) (count r s : ℕ) (p q : Record) : Type 0 where
+  pub fits : count * (2 + t .names) ≤ length l
+  pub few : count ≤ 256
+  pub receiver : r < count
+  pub sender : s < count
+  pub reads : Reads f t (getD l (r * (2 + t .names)) 0) p
+  pub other : Reads f t (getD l (s * (2 + t .names)) 0) q
+  pub receives : 5 ≤ p .kind
+  pub sends : q .kind ≡ 4
+  pub arities : p .arity ≡ q .arity
+
+-- the threads after their step, the receiver's continuation under marker number k
+unfoldable pub advanced : List ℕ → Trailer → List ℕ → Config ℕ ℕ → ℕ → ℕ → ℕ → Record → Record → Config ℕ ℕ
+advanced f t choices c r s k p q =
+    keep (remains (leb 6 (p .kind)) r s) c
+    ++ (unfolded f t choices (p .left) k (bind (argsOf p) (map (λ z. getD (getD c s nobody .env) z 0) (argsOf q)) (getD c r nobody .env))
+    ++ unfolded f t choices (q .left) (getD c s nobody .marker) (getD c s nobody .env))
+
+-- ---- what a call answers and leaves
+
+-- "the marker number of the receiver's continuation"
+unfoldable pub markerMade : Array → Memory → Attempt → ℕ
+markerMade a m u =
+    let r = getD (configOf a m) (u .receiver) nobody in
+    let s = getD (configOf a m) (u .sender) nobody in
+    elim (agentAt a (r .agent)) [ none ↦ 0 | some p ↦ markerOf (words (entriesOf m)) (p .sort) r s ]
+
+-- a step's answer and both lists at exit are those of a result: the counts and the lists that it leaves, or its refusal and the lists
+-- as they were
+abbrev pub Leaves : Memory → Result → Fired → List ℕ → List ℕ → Type 0
+Leaves m r (Stopped n) l ml = (r ≡ stops n) × (l ≡ m .threads) × (ml ≡ m .markers)
+Leaves m r (Made k j x) l ml = r ≡ leaves (memory l k ml j)
+
+-- and a step that is made tells the marker number
+abbrev pub Tells : ℕ → Fired → Type 0
+Tells x (Stopped n) = Unit {0}
+Tells x (Made k j y) = y ≡ x

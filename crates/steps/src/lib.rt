@@ -1,0 +1,114 @@
+// The step of a ready pair, made in place on lent lists, or refused by 28 or 29 with every word as it was.
+// Promises the model's step of the lists. Depends on unfolds, threads, ready, markers, frees, arrays, records, wire, model and laws.
+ghost use mathlib.Core.Path.{_≡_};
+ghost use mathlib.Core.Bool.{cond};
+ghost use Prim.Native.Nat.{ℕ, _+_, _*_, _-_, _<_, _≤_, min};
+ghost use mathlib.Core.List.{[]};
+ghost use lib.Dec.{leb};
+ghost use lib.ListN.{length, getD, drop};
+ghost use Rattle.laws.specs.Lists.{put};
+ghost use Rattle.model.specs.Calculus.{choicesOf};
+ghost use Rattle.model.specs.Memory.{threadIn, threadsIn, wordsOf, try, stepIn, formed};
+ghost use Rattle.records.specs.Record.{arrayOf};
+ghost use Rattle.arrays.specs.File.{IsRead};
+ghost use Rattle.frees.specs.Frees.{AllFree};
+ghost use Rattle.unfolds.specs.Unfold.{unfolded};
+ghost use Rattle.ready.specs.Ready.{meeting};
+ghost use Rattle.steps.specs.Steps.{memory, Pair, advanced, markerMade, Leaves, Tells};
+use markers::Entry;
+use records::Record;
+use records::Trailer;
+
+// What becomes of a ready pair: refused by 28 or 29, or the counts after its step and the marker number of the receiver's
+// continuation.
+pub enum Fired {
+    Stopped(u8),
+    Made(usize, usize, u32),
+}
+
+// Makes the step of a pair. The receiver's continuation runs under `mark`; near and far are room for the two environments.
+fn advance(
+    file: &[u8],
+    t: Trailer,
+    table: &[u64],
+    choices: &[u8],
+    threads: &mut [u32],
+    count: usize,
+    r: usize,
+    s: usize,
+    p: Record,
+    q: Record,
+    mark: u32,
+    near: &mut [u32],
+    far: &mut [u32],
+)
+    requires { ⌜ IsRead (now file) t × (length (now choices) ≡ 128) × (length (now table) ≡ 4096) × AllFree (now table) (arrayOf (now file) t) ⌝ }
+    requires { ⌜ Pair (now file) t (now threads) count r s p q × (mark < 65536) × (getD (now threads) (s * (2 + t .names) + 1) 0 < 65536) ⌝ }
+    requires { ⌜ (length (now near) ≡ t .names) × (length (now far) ≡ t .names) ⌝ }
+    requires { ⌜ length (wordsOf (advanced (now file) t (now choices) (threadsIn (t .names) count (now threads)) r s mark p q)) ≤ length (now threads) ⌝ }
+    ensures { λ _. ⌜ now (threads .exit) ≡ put 0 (wordsOf (advanced (now (file .entry)) t (now (choices .entry)) (threadsIn (t .names) count (now (threads .entry))) r s mark p q)) (now (threads .entry)) ⌝ }
+{
+    let width = 2 + t.names;
+    let at = r * width;
+    let from = s * width;
+    let other = threads[from + 1];
+    threads::copy_words(threads, at + 2, near);
+    threads::copy_words(threads, from + 2, far);
+    threads::bind_params(p, q, far, near);
+    let end = threads::keep_threads(threads, t.names, count, r, s, 6 <= p.kind);
+    let mid = unfolds::unfold_node(file, t, table, choices, p.left, mark, near, threads, end);
+    unfolds::unfold_node(file, t, table, choices, q.left, other, far, threads, mid);
+}
+
+// The same with room of its own.
+fn advance_here(
+    file: &[u8],
+    t: Trailer,
+    table: &[u64],
+    choices: &[u8],
+    threads: &mut [u32],
+    count: usize,
+    r: usize,
+    s: usize,
+    p: Record,
+    q: Record,
+    mark: u32,
+)
+    requires { ⌜ IsRead (now file) t × (length (now choices) ≡ 128) × (length (now table) ≡ 4096) × AllFree (now table) (arrayOf (now file) t) ⌝ }
+    requires { ⌜ Pair (now file) t (now threads) count r s p q × (mark < 65536) × (getD (now threads) (s * (2 + t .names) + 1) 0 < 65536) ⌝ }
+    requires { ⌜ length (wordsOf (advanced (now file) t (now choices) (threadsIn (t .names) count (now threads)) r s mark p q)) ≤ length (now threads) ⌝ }
+    ensures { λ _. ⌜ now (threads .exit) ≡ put 0 (wordsOf (advanced (now (file .entry)) t (now (choices .entry)) (threadsIn (t .names) count (now (threads .entry))) r s mark p q)) (now (threads .entry)) ⌝ }
+{
+    let mut near = [0u32; 256];
+    let mut far = [0u32; 256];
+    let n = t.names;
+    advance(
+        file,
+        t,
+        table,
+        choices,
+        threads,
+        count,
+        r,
+        s,
+        p,
+        q,
+        mark,
+        &mut near[..n],
+        &mut far[..n],
+    );
+}
+
+// How many threads there are after the step of a pair, of `count` threads; a number above 256 stands for any.
+fn threads_after(file: &[u8], t: Trailer, choices: &[u8], p: Record, q: Record, count: usize) -> usize
+    requires { ⌜ IsRead (now file) t × (length (now choices) ≡ 128) × (p .left < t .nodes) × (q .left < t .nodes) × (2 ≤ count) × (count ≤ 256) ⌝ }
+    ensures { λ n. ⌜ n ≡ count - cond (leb 6 (p .kind)) 1 2 + (min 257 (length (unfolded (now (file .entry)) t (now (choices .entry)) (p .left) 0 []))
+        + min 257 (length (unfolded (now (file .entry)) t (now (choices .entry)) (q .left) 0 []))) ⌝ }
+{
+    let near = unfolds::count_threads(file, t, choices, p.left);
+    let far = unfolds::count_threads(file, t, choices, q.left);
+    if 6 <= p.kind {
+        return count - 1 + (near + far);
+    }
+    count - 2 + (near + far)
+}

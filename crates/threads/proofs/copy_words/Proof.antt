@@ -1,0 +1,79 @@
+-- `threads::copy_words` meets its contract. The loop's invariant: the first j words were copied.
+use Prim.Native.Nat.{_-_, _≤_}
+use native.Mathlib.Omega.{arith}
+use mathlib.Core.Path.{_≡_, refl, sym, _∙_}
+use denote.Ref.{now}
+use lib.ListN.{length, take, drop, length-set}
+use borrow.Author.Needs.{needs}
+use Rattle.laws.specs.Lists.{put}
+use Rattle.laws.proofs.Put.{put-nil}
+use Rattle.threads.proofs.Moves.{copied, copied-all}
+use Rattle.threads.proofs.copy_words.Statement.{statement}
+use Rattle.threads.proofs.copy_words.Tie as tie
+
+abbrev Inv-loop : tie.InvT-loop
+Inv-loop threads from env₀ j₀ env j =
+    (j ≤ length env₀) × (env ≡ put 0 (take j (drop from threads)) env₀) × (length env ≡ length env₀)
+
+abbrev μ-loop : tie.MeasureT-loop
+μ-loop threads from env₀ j₀ env j = length env₀ - j
+
+loop-holds : tie.Need-loop-holds Inv-loop μ-loop
+loop-holds c = (omega arith, sym (put-nil _ _), refl)
+
+add-env : tie.Need-add-env Inv-loop μ-loop
+add-env c = search needs
+
+mul-env : tie.Need-mul-env Inv-loop μ-loop
+mul-env c = search needs
+
+shared-slice-read-env : tie.Need-shared-slice-read-env Inv-loop μ-loop
+shared-slice-read-env c = search needs
+
+mul-env-2 : tie.Need-mul-env-2 Inv-loop μ-loop
+mul-env-2 c = search needs
+
+slice-write-env : tie.Need-slice-write-env Inv-loop μ-loop
+slice-write-env c = search needs
+
+add-j : tie.Need-add-j Inv-loop μ-loop
+add-j c = search needs
+
+loop-less : tie.Need-loop-less Inv-loop μ-loop
+loop-less c = search needs
+
+loop-again : tie.Need-loop-again Inv-loop μ-loop
+loop-again c =
+    let x = c .before .before .before .args in
+    let l = c .before .before .loop in (
+      omega arith,
+      rw (l .inv .1) (copied (now (x .threads)) (now (x .env)) (x .from) (l .j) (c .before .before .before .pre) (omega arith)),
+      simp length-set (l .inv .2),
+    )
+
+same-length : tie.Need-same-length Inv-loop μ-loop
+same-length c = search needs
+
+returns : tie.Need-returns Inv-loop μ-loop
+returns c =
+    let x = c .before .before .args in
+    let done : c .before .loop .j ≡ length (now (x .env)) = omega arith in
+    c .before .loop .inv .1 ∙ rw done (copied-all (now (x .threads)) (now (x .env)) (x .from) (c .before .before .pre))
+
+pub copy-words-spec : {M : Type 1} → statement M
+copy-words-spec =
+    tie.close
+    (tie.spec
+    Inv-loop
+    μ-loop
+    loop-holds
+    add-env
+    mul-env
+    shared-slice-read-env
+    mul-env-2
+    slice-write-env
+    add-j
+    loop-less
+    loop-again
+    same-length
+    returns)

@@ -1,0 +1,55 @@
+-- `threads::keep_if` meets its contract: a thread that goes, one that is in place, and one that moves.
+use Prim.Native.Nat.{ℕ, _+_}
+use native.Mathlib.Nat.{add-zero}
+use native.Mathlib.Omega.{arith}
+use mathlib.Core.Path.{_≡_, sym, ap, _∙_}
+use denote.Ref.{now}
+use lib.ListN.{length, take, drop}
+use borrow.Author.Tests.{not-true, not-false}
+use borrow.Author.Needs.{needs}
+use Rattle.laws.specs.Lists.{put}
+use Rattle.laws.proofs.Put.{put-nil, length-put}
+use Rattle.threads.proofs.Moves.{put-same, stays-length}
+use Rattle.threads.proofs.keep_if.Statement.{statement}
+use Rattle.threads.proofs.keep_if.Tie as tie
+
+returns : tie.Need-returns
+returns c =
+    let x = c .before .before .args in
+    rw (not-true (x .stays) (c .if1 .taken)) (sym (put-nil (x .to) (now (x .threads))), sym (add-zero (x .to)))
+
+add-result : tie.Need-add-result
+add-result c = search needs
+
+returns-2 : tie.Need-returns-2
+returns-2 c =
+    let x = c .before .before .before .args in
+    let e : x .to ≡ x .from = c .if2 .taken in
+    let n = stays-length (x .from) (x .width) (now (x .threads)) (c .before .before .before .pre .1) in
+    rw (not-false (x .stays) (c .before .if1 .left)) (
+      sym (ap (λ (k : ℕ). put k (take (x .width) (drop (x .from) (now (x .threads)))) (now (x .threads))) e ∙ put-same (x .from) (x .width) (now (x .threads)) (c .before .before .before .pre .1)),
+      ap (λ (k : ℕ). x .to + k) (sym n),
+    )
+
+move-down-requires : tie.Need-move-down-requires
+move-down-requires c κs = search needs
+
+add-result-2 : tie.Need-add-result-2
+add-result-2 c = search needs
+
+same-length : tie.Need-same-length
+same-length c =
+    let x = c .before .before .before .before .before .before .before .args in
+    let n = stays-length (x .from) (x .width) (now (x .threads)) (c .before .before .before .before .before .before .before .pre .1) in
+    ap length (c .before .before .move-down .ensures) ∙ length-put (x .to) (take (x .width) (drop (x .from) (now (x .threads)))) (now (x .threads)) (omega arith)
+
+returns-3 : tie.Need-returns-3
+returns-3 c =
+    let x = c .before .before .before .before .before .before .before .args in
+    let n = stays-length (x .from) (x .width) (now (x .threads)) (c .before .before .before .before .before .before .before .pre .1) in
+    rw (not-false (x .stays) (c .before .before .before .before .before .if1 .left)) (c .before .before .move-down .ensures, ap (λ (k : ℕ). x .to + k) (sym n))
+
+pub keep-if-spec : {M : Type 1} → statement M
+keep-if-spec =
+    tie.close
+    (tie.spec returns add-result returns-2 move-down-requires add-result-2 same-length returns-3)

@@ -1,0 +1,96 @@
+-- `threads::names_formed` meets its contract. The loop's invariant: the words of the first v names are well formed.
+use Prim.Native.Nat.{ℕ, _+_, _*_, _-_, _≤_}
+use native.Mathlib.Omega.{arith}
+use mathlib.Core.Path.{_≡_, sym, ap, _∙_}
+use mathlib.Core.Bool.{Bool, true}
+use mathlib.Core.List.{List}
+use denote.Ref.{now}
+use lib.ListN.{getD}
+use borrow.Author.Tests.{not-true, not-false}
+use borrow.Author.Needs.{needs}
+use Rattle.laws.specs.Search.{every}
+use Rattle.laws.proofs.Search.{every-zero}
+use Rattle.marks.specs.Marks.{marked}
+use Rattle.threads.specs.Threads.{wordOk}
+use Rattle.threads.proofs.Laws.{every-more, every-fails}
+use Rattle.threads.proofs.names_formed.Statement.{statement}
+use Rattle.threads.proofs.names_formed.Tie as tie
+
+-- name v's word is well formed
+abbrev wordsTest : List ℕ → List ℕ → ℕ → ℕ → List ℕ → ℕ → ℕ → Bool
+wordsTest table news marks i threads at v = wordOk (marked news 0) marks (marked table (4 * i) v) (getD threads (at + v) 0)
+
+abbrev Inv-loop : tie.InvT-loop
+Inv-loop table news names marks i threads at v₀ v = (v ≤ names) × (every v (wordsTest table news marks i threads at) ≡ true)
+
+abbrev μ-loop : tie.MeasureT-loop
+μ-loop table news names marks i threads at v₀ v = names - v
+
+loop-holds : tie.Need-loop-holds Inv-loop μ-loop
+loop-holds c = (omega arith, every-zero _)
+
+mul-is-marked : tie.Need-mul-is-marked Inv-loop μ-loop
+mul-is-marked c = search needs
+
+is-marked-requires : tie.Need-is-marked-requires Inv-loop μ-loop
+is-marked-requires c κs = search needs
+
+add-word-formed : tie.Need-add-word-formed Inv-loop μ-loop
+add-word-formed c = search needs
+
+mul-word-formed : tie.Need-mul-word-formed Inv-loop μ-loop
+mul-word-formed c = search needs
+
+shared-slice-read-word-formed : tie.Need-shared-slice-read-word-formed Inv-loop μ-loop
+shared-slice-read-word-formed c = search needs
+
+word-formed-requires : tie.Need-word-formed-requires Inv-loop μ-loop
+word-formed-requires c κs = search needs
+
+returns : tie.Need-returns Inv-loop μ-loop
+returns c =
+    let x = c .before .before .before .before .before .before .before .before .before .args in
+    let l = c .before .before .before .before .before .loop in
+    let f : ℕ → Bool = wordsTest (now (x .table)) (now (x .news)) (x .marks) (x .i) (now (x .threads)) (x .at) in
+    let e : c .before .word-formed .result ≡ f (l .v) =
+    c .before .word-formed .ensures ∙ ap (λ (b : Bool). wordOk (marked (now (x .news)) 0) (x .marks) b (getD (now (x .threads)) (x .at + l .v) 0)) (c .before .before .before .is-marked .ensures) in sym (every-fails (x .names) f (l .v) (c .before .before .before .before .loop-test .taken) (sym e ∙ not-true (c .before .word-formed .result) (c .if1 .taken)))
+
+add-v : tie.Need-add-v Inv-loop μ-loop
+add-v c = search needs
+
+loop-less : tie.Need-loop-less Inv-loop μ-loop
+loop-less c = search needs
+
+loop-again : tie.Need-loop-again Inv-loop μ-loop
+loop-again c =
+    let x = c .before .before .before .before .before .before .before .before .before .args in
+    let l = c .before .before .before .before .before .loop in
+    let f : ℕ → Bool = wordsTest (now (x .table)) (now (x .news)) (x .marks) (x .i) (now (x .threads)) (x .at) in
+    let e : c .before .word-formed .result ≡ f (l .v) =
+    c .before .word-formed .ensures ∙ ap (λ (b : Bool). wordOk (marked (now (x .news)) 0) (x .marks) b (getD (now (x .threads)) (x .at + l .v) 0)) (c .before .before .before .is-marked .ensures) in (omega arith, every-more f (l .v) (l .inv .1) (sym e ∙ not-false (c .before .word-formed .result) (c .if1 .left)))
+
+returns-2 : tie.Need-returns-2 Inv-loop μ-loop
+returns-2 c =
+    let x = c .before .before .before .before .before .args in
+    let l = c .before .loop in
+    let done : l .v ≡ x .names = omega arith in
+    sym (ap (λ (n : ℕ). every n (wordsTest (now (x .table)) (now (x .news)) (x .marks) (x .i) (now (x .threads)) (x .at))) (sym done) ∙ l .inv .1)
+
+pub names-formed-spec : {M : Type 1} → statement M
+names-formed-spec =
+    tie.close
+    (tie.spec
+    Inv-loop
+    μ-loop
+    loop-holds
+    mul-is-marked
+    is-marked-requires
+    add-word-formed
+    mul-word-formed
+    shared-slice-read-word-formed
+    word-formed-requires
+    returns
+    add-v
+    loop-less
+    loop-again
+    returns-2)

@@ -1,0 +1,109 @@
+-- `threads::threads_formed` meets its contract. The loop's invariant: the first i threads are well formed.
+use Prim.Native.Nat.{ℕ, _+_, _*_, _-_, _≤_}
+use native.Mathlib.Nat.{zero-mul}
+use native.Mathlib.Omega.{arith}
+use mathlib.Core.Path.{_≡_, sym, ap, _∙_}
+use mathlib.Core.Bool.{Bool, true}
+use mathlib.Core.List.{List}
+use denote.Ref.{now}
+use lib.ListN.{getD, drop}
+use borrow.Author.Tests.{not-true, not-false}
+use borrow.Author.Needs.{needs}
+use Rattle.laws.specs.Search.{every}
+use Rattle.laws.proofs.Search.{every-zero}
+use Rattle.model.specs.Numbers.{nobody}
+use Rattle.model.specs.Memory.{threadIn, threadsIn, threadFormed}
+use Rattle.model.proofs.Memory.{slot, next-slot, threads-at}
+use Rattle.records.specs.declared.Trailer.{Trailer}
+use Rattle.records.specs.Record.{arrayOf}
+use Rattle.threads.specs.Threads.{threadsFormed}
+use Rattle.threads.proofs.Laws.{every-more, every-fails}
+use Rattle.threads.proofs.threads_formed.Statement.{statement}
+use Rattle.threads.proofs.threads_formed.Tie as tie
+
+-- thread i is well formed
+abbrev threadTest : List ℕ → Trailer → ℕ → List ℕ → ℕ → ℕ → Bool
+threadTest file t marks threads count i = threadFormed (arrayOf file t) marks (getD (threadsIn (t .names) count threads) i nobody)
+
+abbrev Inv-loop : tie.InvT-loop
+Inv-loop file t table news marks threads count width at₀ i₀ at i =
+    (i ≤ count) × (at ≡ i * (2 + t .names)) × (every i (threadTest file t marks threads count) ≡ true)
+
+abbrev μ-loop : tie.MeasureT-loop
+μ-loop file t table news marks threads count width at₀ i₀ at i = count - i
+
+add-width : tie.Need-add-width Inv-loop μ-loop
+add-width c = search needs
+
+loop-holds : tie.Need-loop-holds Inv-loop μ-loop
+loop-holds c = (omega arith, sym (zero-mul (2 + c .before .before .before .before .before .args .t .names)), every-zero _)
+
+thread-formed-requires : tie.Need-thread-formed-requires Inv-loop μ-loop
+thread-formed-requires c κs =
+    let x = c .before .before .before .before .before .before .before .args in
+    let l = c .before .loop in
+    let z = slot (x .t .names) (l .i) (x .count) (c .loop-test .taken) in
+    search needs
+
+returns : tie.Need-returns Inv-loop μ-loop
+unfolding threadsFormed
+returns c =
+    let x = c .before .before .before .before .before .before .before .before .before .args in
+    let l = c .before .before .before .loop in
+    let z = slot (x .t .names) (l .i) (x .count) (c .before .before .loop-test .taken) in
+    let f : ℕ → Bool = threadTest (now (x .file)) (x .t) (x .marks) (now (x .threads)) (x .count) in
+    let e : c .before .thread-formed .result ≡ f (l .i) =
+    c .before .thread-formed .ensures
+    ∙ ap (threadFormed (arrayOf (now (x .file)) (x .t)) (x .marks))
+    (ap (λ (k : ℕ). threadIn (x .t .names) (drop k (now (x .threads)))) (l .inv .1) ∙ sym (threads-at (x .t .names) (l .i) (x .count) (now (x .threads)) (c .before .before .loop-test .taken))) in
+    sym (every-fails (x .count) f (l .i) (c .before .before .loop-test .taken) (sym e ∙ not-true (c .before .thread-formed .result) (c .if1 .taken)))
+
+add-at : tie.Need-add-at Inv-loop μ-loop
+add-at c =
+    let x = c .before .before .before .before .before .before .before .before .before .args in
+    let l = c .before .before .before .loop in
+    let z = slot (x .t .names) (l .i) (x .count) (c .before .before .loop-test .taken) in
+    search needs
+
+add-i : tie.Need-add-i Inv-loop μ-loop
+add-i c = search needs
+
+loop-less : tie.Need-loop-less Inv-loop μ-loop
+loop-less c = search needs
+
+loop-again : tie.Need-loop-again Inv-loop μ-loop
+loop-again c =
+    let x = c .before .before .before .before .before .before .before .before .before .args in
+    let l = c .before .before .before .loop in
+    let z = slot (x .t .names) (l .i) (x .count) (c .before .before .loop-test .taken) in
+    let f : ℕ → Bool = threadTest (now (x .file)) (x .t) (x .marks) (now (x .threads)) (x .count) in
+    let e : c .before .thread-formed .result ≡ f (l .i) =
+    c .before .thread-formed .ensures
+    ∙ ap (threadFormed (arrayOf (now (x .file)) (x .t)) (x .marks))
+    (ap (λ (k : ℕ). threadIn (x .t .names) (drop k (now (x .threads)))) (l .inv .1) ∙ sym (threads-at (x .t .names) (l .i) (x .count) (now (x .threads)) (c .before .before .loop-test .taken))) in
+    let s = next-slot (x .t .names) (l .i) in
+    (omega arith, omega arith, every-more f (l .i) (l .inv .2) (sym e ∙ not-false (c .before .thread-formed .result) (c .if1 .left)))
+
+returns-2 : tie.Need-returns-2 Inv-loop μ-loop
+unfolding threadsFormed
+returns-2 c =
+    let x = c .before .before .before .before .before .before .before .args in
+    let l = c .before .loop in
+    let done : l .i ≡ x .count = omega arith in
+    sym (ap (λ (n : ℕ). every n (threadTest (now (x .file)) (x .t) (x .marks) (now (x .threads)) (x .count))) (sym done) ∙ l .inv .2)
+
+pub threads-formed-spec : {M : Type 1} → statement M
+threads-formed-spec =
+    tie.close
+    (tie.spec
+    Inv-loop
+    μ-loop
+    add-width
+    loop-holds
+    thread-formed-requires
+    returns
+    add-at
+    add-i
+    loop-less
+    loop-again
+    returns-2)
