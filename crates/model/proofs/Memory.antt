@@ -6,7 +6,7 @@ use native.Mathlib.Omega.{arith}
 use mathlib.Core.Path.{_≡_, refl, sym, ap, ap₂, _∙_}
 use mathlib.Core.List.{List, [], _∷_, _++_, append-assoc}
 use lib.ListN.{length, getD, take, drop, length-drop, length-append}
-use lib.Seq.{take-add, take-at, drop-at, drop-drop, getD-drop, length-take-le}
+use lib.Seq.{take-add, take-at, getD-take, drop-at, drop-drop, getD-drop, length-take-le}
 use Rattle.laws.specs.Lists.{All, put}
 use Rattle.model.specs.Calculus.{Thread, Config}
 use Rattle.model.specs.Numbers.{Entry, noEntry, nobody}
@@ -17,6 +17,20 @@ use Rattle.model.specs.Memory.{threadIn, threadsIn, threadWords, wordsOf
 -- thread r lies within the first k
 pub slot : (n r k : ℕ) → r < k → r * (2 + n) + (2 + n) ≤ k * (2 + n)
 slot n r k h = rw (← suc-mul r (2 + n)) (mul-le-mul-right (2 + n) h)
+
+-- the next thread's place, as a loop that counts up finds it
+pub next-slot : (n r : ℕ) → r * (2 + n) + (2 + n) ≡ (r + 1) * (2 + n)
+next-slot n r = sym (ap (λ (k : ℕ). k * (2 + n)) (add-one r) ∙ suc-mul r (2 + n))
+
+-- the agent and a name's word of the thread at a place
+pub agent-word : (n at : ℕ) (l : List ℕ) → threadIn n (drop at l) .agent ≡ getD l at 0
+unfolding threadIn
+agent-word n at l = getD-drop at l 0 0 ∙ ap (λ (k : ℕ). getD l k 0) (add-zero at)
+
+pub name-word : (n at : ℕ) (l : List ℕ) (v : ℕ) → v < n → getD (threadIn n (drop at l) .env) v 0 ≡ getD l (at + 2 + v) 0
+unfolding threadIn
+name-word n at l v h =
+    getD-take n (drop 2 (drop at l)) v 0 h ∙ ap (λ (t : List ℕ). getD t v 0) (drop-drop 2 at l) ∙ getD-drop (at + 2) l v 0
 
 two : (n : ℕ) → 2 + n ≡ suc (suc n)
 two n = omega arith
