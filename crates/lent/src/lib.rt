@@ -10,7 +10,15 @@ ghost use Rattle.frees.specs.Frees.{AllFree};
 use records::Trailer;
 
 // The lent configuration is well formed: both counts fit the lists, and so do the threads and the marker entries.
-pub fn well_formed(file: &[u8], t: Trailer, table: &[u64], threads: &[u32], count: usize, markers: &[u16], listed: usize) -> bool
+pub fn well_formed(
+    file: &[u8],
+    t: Trailer,
+    table: &[u64],
+    threads: &[u32],
+    count: usize,
+    markers: &[u16],
+    listed: usize,
+) -> bool
     requires { ⌜ IsRead (now file) t × (length (now table) ≡ 4096) × AllFree (now table) (arrayOf (now file) t) ⌝ }
     ensures { λ b. ⌜ b ≡ formed (arrayOf (now (file .entry)) t) (record { threads = now (threads .entry); threadCount = count; markers = now (markers .entry); markerCount = listed }) ⌝ }
 {

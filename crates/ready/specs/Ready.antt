@@ -1,14 +1,18 @@
 -- Whether two threads are ready, and the first pair that is.
-use Prim.Native.Nat.{ℕ}
-use mathlib.Core.Bool.{Bool, not, _&&_}
-use mathlib.Core.List.{[]}
-use lib.Dec.{eqb}
-use lib.ListN.{length, getD}
+use Prim.Native.Nat.{ℕ, _+_, _*_, _<_}
+use mathlib.Core.Path.{_≡_}
+use mathlib.Core.Bool.{true, false, cond, not, _&&_}
+use mathlib.Core.List.{List, []}
+use lib.Dec.{eqb, leb}
+use lib.ListN.{length, getD, drop}
 use Rattle.laws.specs.Search.{Found, clear, hit, test, first}
 use Rattle.model.specs.Tree.{Array, agentAt, receives}
 use Rattle.model.specs.Calculus.{Thread, Config, Choices, Attempt, Answer, refused, next, unless, onAgents, cell}
 use Rattle.model.specs.Numbers.{nobody}
-use Rattle.model.specs.Memory.{words, try}
+use Rattle.model.specs.Memory.{words, threadIn, try}
+use Rattle.records.specs.declared.Trailer.{Trailer}
+use Rattle.records.specs.Record.{recordOf}
+use Rattle.ready.specs.declared.Act.{Act}
 use Rattle.ready.specs.declared.Ready.{Ready}
 use Rattle.ready.specs.declared.Ready.the-variants.{Nothing, At}
 
@@ -25,6 +29,33 @@ meeting a r s =
     unless (receives (p .sort) && not (receives (q .sort))) 25
     (unless (eqb (length (p .args)) (length (q .args))) 26
     (unless (words [] .same (cell (words []) (r .env) (p .channel)) (cell (words []) (s .env) (q .channel))) 27 (next []))))
+
+-- ---- the same by records
+
+-- what a thread does, as its agent's record says
+abbrev pub actOf : List ℕ → Trailer → Thread ℕ ℕ → Act
+actOf s t x = record {
+  kind = recordOf s t (x .agent) .kind;
+  arity = recordOf s t (x .agent) .arity;
+  channel = getD (x .env) (recordOf s t (x .agent) .name) 0;
+}
+
+-- thread i of a list of words
+abbrev pub actAt : List ℕ → Trailer → List ℕ → ℕ → Act
+actAt s t l i = actOf s t (threadIn (t .names) (drop (i * (2 + t .names)) l))
+
+-- 25 to 27, or 0, by what the two threads do
+unfoldable pub meet : Act → Act → ℕ
+meet p q =
+    cond (leb 5 (p .kind) && eqb (q .kind) 4)
+    (cond (eqb (p .arity) (q .arity)) (cond (not (eqb (p .channel) 0) && eqb (p .channel) (q .channel)) 0 27) 26) 25
+
+-- below thread s none is ready with receiver p, and thread s is, where there is one
+abbrev pub FirstSender : List ℕ → Trailer → List ℕ → ℕ → Act → ℕ → Type 0
+FirstSender file t l count p s =
+    ((j : ℕ) → j < s → eqb (meet p (actAt file t l j)) 0 ≡ false) × (s < count → eqb (meet p (actAt file t l s)) 0 ≡ true)
+
+-- ---- the first pair
 
 -- the first ready pair, as an attempt under any choices
 unfoldable pub firstMeeting : Array → Config ℕ ℕ → ℕ → Choices → Found Attempt

@@ -9,7 +9,7 @@ ghost use Rattle.model.specs.Calculus.{Choices};
 ghost use Rattle.model.specs.Memory.{threadIn, threadsIn};
 ghost use Rattle.records.specs.Record.{arrayOf};
 ghost use Rattle.arrays.specs.File.{IsRead};
-ghost use Rattle.ready.specs.Ready.{meeting, firstMeeting, foundPair};
+ghost use Rattle.ready.specs.Ready.{actOf, meet, FirstSender, meeting, firstMeeting, foundPair};
 use records::Trailer;
 
 // The first pair of threads that is ready: receiver and sender.
@@ -25,7 +25,12 @@ struct Act {
     channel: u32,
 }
 
-fn act_at(file: &[u8], t: Trailer, threads: &[u32], at: usize) -> Act {
+// What the thread at index `at` does.
+fn act_at(file: &[u8], t: Trailer, threads: &[u32], at: usize) -> Act
+    requires { ⌜ IsRead (now file) t × (at + (2 + t .names) ≤ length (now threads)) ⌝ }
+    requires { ⌜ isAgent (nodeAt (arrayOf (now file) t) (getD (now threads) at 0)) ≡ true ⌝ }
+    ensures { λ p. ⌜ p ≡ actOf (now (file .entry)) t (threadIn (t .names) (drop at (now (threads .entry)))) ⌝ }
+{
     let r = records::record_at(file, t.start + 16 * wire::wide(threads[at]));
     Act {
         kind: r.kind,
@@ -35,14 +40,16 @@ fn act_at(file: &[u8], t: Trailer, threads: &[u32], at: usize) -> Act {
 }
 
 // 25 to 27, or 0 where the receiver and the sender are ready.
-fn meets(p: Act, q: Act) -> u8 {
-    if (p.kind < 5) | (q.kind != 4) {
+fn meets(p: Act, q: Act) -> u8
+    ensures { λ e. ⌜ e ≡ meet p q ⌝ }
+{
+    if !((5 <= p.kind) & (q.kind == 4)) {
         return 25;
     }
     if p.arity != q.arity {
         return 26;
     }
-    if (p.channel == 0) | (p.channel != q.channel) {
+    if !((p.channel != 0) & (p.channel == q.channel)) {
         return 27;
     }
     0
@@ -69,7 +76,14 @@ pub fn pair_refusal(
 }
 
 // The first sender below `count` that is ready with receiver p, or `count`.
-fn first_sender(file: &[u8], t: Trailer, threads: &[u32], count: usize, p: Act) -> usize {
+fn first_sender(file: &[u8], t: Trailer, threads: &[u32], count: usize, p: Act) -> usize
+    requires { ⌜ IsRead (now file) t × (count ≤ 256) × (count * (2 + t .names) ≤ length (now threads)) ⌝ }
+    requires { ⌜ ((i : ℕ) → i < count → isAgent (nodeAt (arrayOf (now file) t) (getD (now threads) (i * (2 + t .names)) 0)) ≡ true) ⌝ }
+    ensures { λ s. ⌜ FirstSender (now (file .entry)) t (now (threads .entry)) count p s ⌝ }
+{
+    if p.kind < 5 {
+        return count;
+    }
     let width = 2 + t.names;
     let mut at: usize = 0;
     let mut s: usize = 0;
@@ -88,18 +102,17 @@ fn first_sender(file: &[u8], t: Trailer, threads: &[u32], count: usize, p: Act) 
 pub fn first_ready(file: &[u8], t: Trailer, threads: &[u32], count: usize) -> Ready
     requires { ⌜ IsRead (now file) t × (count ≤ 256) × (count * (2 + t .names) ≤ length (now threads)) ⌝ }
     requires { ⌜ ((i : ℕ) → i < count → isAgent (nodeAt (arrayOf (now file) t) (getD (now threads) (i * (2 + t .names)) 0)) ≡ true) ⌝ }
-    ensures { λ e. ⌜ ((ch : Choices) → foundPair e ch ≡ firstMeeting (arrayOf (now (file .entry)) t) (threadsIn (t .names) count (now (threads .entry))) count ch) ⌝ }
+    ensures { λ e. ⌜ ((ch : Choices) → foundPair e ch
+        ≡ firstMeeting (arrayOf (now (file .entry)) t) (threadsIn (t .names) count (now (threads .entry))) count ch) ⌝ }
 {
     let width = 2 + t.names;
     let mut at: usize = 0;
     let mut r: usize = 0;
     while r < count {
         let p = act_at(file, t, threads, at);
-        if 5 <= p.kind {
-            let s = first_sender(file, t, threads, count, p);
-            if s < count {
-                return Ready::At(r, s);
-            }
+        let s = first_sender(file, t, threads, count, p);
+        if s < count {
+            return Ready::At(r, s);
         }
         at += width;
         r += 1;

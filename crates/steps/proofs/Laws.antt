@@ -1,6 +1,7 @@
 -- A ready pair of well-formed lists: its records, and its step as a result on the lists.
 use Prim.Native.Nat.{ℕ, zero, suc, _+_, _*_, _-_, _≤_, _<_, min}
 use native.Mathlib.Nat.{le-trans}
+use native.Mathlib.Numerals.{lt-of-le-of-ne, add-one}
 use native.Mathlib.Omega.{arith}
 use mathlib.Core.Path.{_≡_, refl, sym, ap, ap₂, _∙_, subst}
 use mathlib.Core.Logic.{_⊎_, inl, inr, _≢_}
@@ -9,18 +10,20 @@ use mathlib.Core.List.{List, [], _∷_, _++_, map}
 use mathlib.Core.Option.{Option, none, some}
 use lib.Dec.{eqb, ltb, leb}
 use lib.ListN.{length, getD, take, drop, length-append}
-use borrow.Author.Tests.{eqb-true, eqb-false, eq-eqb, ne-eqb, leb-true, leb-false, le-leb, lt-leb, ltb-true, ltb-false, not-true}
+use borrow.Author.Tests.{eqb-true, eqb-false, eq-eqb, ne-eqb, leb-true, leb-false, le-leb, lt-leb, lt-ltb, le-ltb, ltb-true, ltb-false, not-true, not-false}
 use Rattle.laws.specs.Lists.{All, put}
 use Rattle.laws.proofs.Search.{decided}
 use Rattle.laws.proofs.Lists.{All-getD}
+use Rattle.laws.proofs.Put.{put-from}
 use Rattle.model.specs.Tree.{Array, Sort, out, inp, resource, Agent, agentAt, receives}
-use Rattle.model.specs.Calculus.{Choices, Thread, Config, Attempt, next, bind, keep, stays, choicesOf, markerOf, receiverLeaves, senderLeaves, stepped, attempt}
+use Rattle.model.specs.Calculus.{Choices, Thread, Config, Attempt, Answer, next, bind, keep, cutFrom, unfoldProc, stays, choicesOf, markerOf, receiverLeaves, senderLeaves, stepped, attempt}
 use Rattle.model.specs.Numbers.{Entry, position, extend, listAfter, nobody, markersAfter}
-use Rattle.model.specs.Memory.{Memory, words, threadsIn, configOf, entriesOf, threadRoom, markerRoom, formed, Result, stops, leaves, store, fitted, onAnswer, stepIn, try}
+use Rattle.model.specs.Memory.{Memory, words, threadsIn, wordsOf, numbersOf, entryNumbers, configOf, entriesOf, threadRoom, markerRoom, formed, Result, stops, leaves, store, fitted, onAnswer, stepIn, try}
 use Rattle.model.specs.Safe.{total}
 use Rattle.model.proofs.Threads.{keep-one, keep-two}
 use Rattle.model.proofs.Stepped.{Meet, attempt-next}
-use Rattle.model.proofs.Memory.{length-threads, thread-room, thread-at}
+use Rattle.model.proofs.Markers.{position-le}
+use Rattle.model.proofs.Memory.{length-threads, length-entries, thread-room, marker-room, thread-at, numbers-append, numbers-entries}
 use Rattle.model.proofs.Lent.{Ok, Sound, formed-sound}
 use Rattle.model.proofs.Engine.{few, oks}
 use Rattle.records.specs.declared.Record.{Record}
@@ -30,7 +33,9 @@ use Rattle.arrays.specs.File.{IsRead}
 use Rattle.arrays.specs.Agents.{sortOf, agentIn, Reads}
 use Rattle.arrays.proofs.Agents.{receives-kind, agent-is, no-agent, small-kind, arity-is}
 use Rattle.unfolds.specs.Unfold.{unfolded}
+use Rattle.unfolds.proofs.Laws.{length-unfolded}
 use Rattle.threads.specs.Threads.{remains}
+use Rattle.threads.proofs.Moves.{put-same}
 use Rattle.ready.specs.Ready.{meeting}
 use Rattle.ready.proofs.Attempts.{attempt-made}
 use Rattle.steps.specs.Steps.{memory, Pair, advanced, markerMade}
@@ -61,13 +66,312 @@ stays-kind k r s i h l = go (decided (eqb k 5))
     go : (eqb k 5 ≡ true) ⊎ (eqb k 5 ≡ false) → stays (sortOf k) r s i ≡ remains (leb 6 k) r s i
     go (inl e) =
         let z = eqb-true k 5 e in
-        rw (ne-eqb k 4 (λ q. absurd (omega arith)), e, lt-leb k 6 (omega arith)) (swap (eqb i r) (eqb i s))
+        rw (ne-eqb k 4 (λ q. absurd (omega arith)), e, lt-leb 6 k (omega arith)) (swap (eqb i r) (eqb i s))
     go (inr e) =
-        let z = eqb-false k 5 e in
-        rw (ne-eqb k 4 (λ q. absurd (omega arith)), e, le-leb 6 k (omega arith)) (plain (eqb i s) (not (eqb i r)))
+        let z : k ≢ 5 = eqb-false k 5 e in
+        rw (ne-eqb k 4 (λ q. absurd (omega arith)), e, le-leb 6 k (lt-of-le-of-ne h (λ q. z (sym q)))) (plain (eqb i s) (not (eqb i r)))
 
 keep-same : {X C : Type 0} (f g : ℕ → Bool) (c : Config X C) → ((i : ℕ) → f i ≡ g i) → keep f c ≡ keep g c
 unfolding keep
 keep-same f g [] h = refl
 keep-same f g (t ∷ c) h =
     ap₂ (λ (b : Bool) (z : Config _ _). cond b (t ∷ z) z) (h 0) (keep-same (λ i. f (suc i)) (λ i. g (suc i)) c (λ i. h (suc i)))
+
+-- the numbers of one entry more
+one-more : (es : List Entry) (e : Entry) → numbersOf (es ++ (e ∷ [])) ≡ numbersOf es ++ entryNumbers e
+unfolding numbersOf
+one-more es e = numbers-append es (e ∷ [])
+
+-- ---- how many stay
+
+ones : {X C : Type 0} (c : Config X C) → total (λ t. 1) c ≡ length c
+unfolding total
+ones [] = refl
+ones (t ∷ c) = let e = ones c in omega arith
+
+length-keep : (k r s : ℕ) (c : Config ℕ ℕ) → 5 ≤ k → k ≤ 6 → r ≢ s → r < length c → s < length c
+    → length (keep (remains (leb 6 k) r s) c) ≡ length c - cond (leb 6 k) 1 2
+unfolding remains
+length-keep k r s c h l n hr hs = go (leb 6 k)
+  where
+    go : (b : Bool) → length (keep (remains b r s) c) ≡ length c - cond b 1 2
+    go true =
+        let e = keep-one (λ t. 1) nobody (remains true r s) c s hs (rw (eq-eqb s s refl)) (λ i x. rw (ne-eqb i s x)) in
+        let a = ones (keep (remains true r s) c) in
+        let b = ones c in
+        omega arith
+    go false =
+        let e = keep-two (λ t. 1) nobody (remains false r s) c r s n hr hs
+        (rw (eq-eqb r r refl, ne-eqb r s n)) (rw (eq-eqb s s refl)) (λ i x y. rw (ne-eqb i r x, ne-eqb i s y)) in
+        let a = ones (keep (remains false r s) c) in
+        let b = ones c in
+        omega arith
+
+-- ---- a thread of well-formed lists
+
+module _ (f : List ℕ) (t : Trailer) (read : IsRead f t) (l : List ℕ) (count : ℕ) (ml : List ℕ) (listed : ℕ)
+    (ok : formed (arrayOf f t) (memory l count ml listed) ≡ true) where
+  abbrev a : Array
+  a = arrayOf f t
+
+  abbrev w : ℕ
+  w = 2 + t .names
+
+  abbrev m : Memory
+  m = memory l count ml listed
+
+  abbrev c : Config ℕ ℕ
+  c = configOf a m
+
+  abbrev es : List Entry
+  es = entriesOf m
+
+  pub sound : Sound a m
+  sound = formed-sound a m ok
+
+  pub fit : (count ≤ 256) × (count * w ≤ length l)
+  fit = thread-room (t .names) count l (sound .threadsFit)
+
+  len : length c ≡ count
+  len = length-threads (t .names) count l
+
+  module _ (i : ℕ) (h : i < count) where
+    thread-ok : Ok a (read .formed) (length es) (few a (read .formed) m sound) es (getD c i nobody)
+    thread-ok = All-getD (Ok a (read .formed) (length es) (few a (read .formed) m sound) es) c i nobody (oks a (read .formed) m sound) (rw len h)
+
+    -- its node's record
+    pub thread-reads : Reads f t (getD l (i * w) 0) (recordOf f t (getD l (i * w) 0))
+    thread-reads = record { below = subst (λ (x : Thread ℕ ℕ). x .agent < t .nodes) (thread-at (t .names) i count l h) (thread-ok .below); is = refl }
+
+    acts : (g : Agent) × (agentAt a (getD l (i * w) 0) ≡ some g)
+    acts = subst (λ (x : Thread ℕ ℕ). (g : Agent) × (agentAt a (x .agent) ≡ some g)) (thread-at (t .names) i count l h) (thread-ok .acts)
+
+    pub thread-agent : 4 ≤ recordOf f t (getD l (i * w) 0) .kind
+    thread-agent = go (decided (ltb (recordOf f t (getD l (i * w) 0) .kind) 4))
+      where
+        go : (ltb (recordOf f t (getD l (i * w) 0) .kind) 4 ≡ true) ⊎ (ltb (recordOf f t (getD l (i * w) 0) .kind) 4 ≡ false)
+            → 4 ≤ recordOf f t (getD l (i * w) 0) .kind
+        go (inl e) = none-some (sym (no-agent read thread-reads (ltb-true _ _ e)) ∙ acts .1)
+        go (inr e) = ltb-false _ _ e
+
+    pub thread-marker : getD l (i * w + 1) 0 ≤ length es
+    thread-marker = subst (λ (x : Thread ℕ ℕ). x .marker ≤ length es) (thread-at (t .names) i count l h) (thread-ok .fine)
+
+  -- ---- a ready pair
+
+  module _ (r s : ℕ) (hr : r < count) (hs : s < count) (ready : meeting a (getD c r nobody) (getD c s nobody) ≡ 0) (choices : List ℕ) where
+    abbrev u : Attempt
+    u = try (choicesOf choices) r s
+
+    abbrev p : Record
+    p = recordOf f t (getD l (r * w) 0)
+
+    abbrev q : Record
+    q = recordOf f t (getD l (s * w) 0)
+
+    abbrev R : Thread ℕ ℕ
+    R = getD c r nobody
+
+    abbrev S : Thread ℕ ℕ
+    S = getD c s nobody
+
+    R-is : R ≡ record { agent = getD l (r * w) 0; marker = getD l (r * w + 1) 0; env = take (t .names) (drop (r * w + 2) l) }
+    R-is = thread-at (t .names) r count l hr
+
+    S-is : S ≡ record { agent = getD l (s * w) 0; marker = getD l (s * w + 1) 0; env = take (t .names) (drop (s * w + 2) l) }
+    S-is = thread-at (t .names) s count l hs
+
+    made : (d : Config ℕ ℕ) × (attempt (words es) a c u ≡ next d)
+    made = attempt-made a es c u (rw len hr) (rw len hs) ready
+
+    meet : (x : Meet (words es) a c u) × (made .0 ≡ stepped (words es) c u (x .p) (x .q))
+    meet = attempt-next (words es) a c u (made .0) (made .1)
+
+    receiver-is : agentAt a (R .agent) ≡ some (agentIn a p)
+    receiver-is = ap (λ (x : Thread ℕ ℕ). agentAt a (x .agent)) R-is ∙ agent-is read (thread-reads r hr) (thread-agent r hr)
+
+    sender-is : agentAt a (S .agent) ≡ some (agentIn a q)
+    sender-is = ap (λ (x : Thread ℕ ℕ). agentAt a (x .agent)) S-is ∙ agent-is read (thread-reads s hs) (thread-agent s hs)
+
+    p-is : meet .0 .p ≡ agentIn a p
+    unfolding words
+    p-is = some-inj (sym (meet .0 .receiver) ∙ receiver-is)
+
+    q-is : meet .0 .q ≡ agentIn a q
+    unfolding words
+    q-is = some-inj (sym (meet .0 .sender) ∙ sender-is)
+
+    pub receiver-kind : 5 ≤ p .kind
+    receiver-kind =
+        let e : receives (sortOf (p .kind)) ≡ true = ap (λ (x : Agent). receives (x .sort)) (sym p-is) ∙ meet .0 .receives in
+        let n = eqb-false (p .kind) 4 (not-true _ (sym (receives-kind (p .kind)) ∙ e)) in
+        lt-of-le-of-ne (thread-agent r hr) (λ z. n (sym z))
+
+    pub sender-kind : q .kind ≡ 4
+    sender-kind =
+        let e : receives (sortOf (q .kind)) ≡ false = ap (λ (x : Agent). receives (x .sort)) (sym q-is) ∙ meet .0 .sends in
+        eqb-true (q .kind) 4 (not-false _ (sym (receives-kind (q .kind)) ∙ e))
+
+    pub pair : Pair f t l count r s p q
+    pair = record {
+      fits = fit .1;
+      few = fit .0;
+      receiver = hr;
+      sender = hs;
+      reads = thread-reads r hr;
+      other = thread-reads s hs;
+      receives = receiver-kind;
+      sends = sender-kind;
+      arities =
+          sym (arity-is read (thread-reads r hr)) ∙ ap (λ (x : Agent). length (x .args)) (sym p-is) ∙ meet .0 .arities
+          ∙ ap (λ (x : Agent). length (x .args)) q-is ∙ arity-is read (thread-reads s hs);
+    }
+
+    pub apart : r ≢ s
+    apart e = let z : p .kind ≡ q .kind = ap (λ (x : ℕ). recordOf f t (getD l (x * w) 0) .kind) e in absurd (omega (arith, receiver-kind, sender-kind))
+
+    -- the marker number of the receiver's continuation
+    abbrev k : ℕ
+    k = markerOf (words es) (sortOf (p .kind)) R S
+
+    stepped-is : stepped (words es) c u (agentIn a p) (agentIn a q) ≡ advanced f t choices c r s k p q
+    unfolding stepped advanced receiverLeaves senderLeaves words unfolded unfoldProc cutFrom
+    stepped-is =
+        ap (λ (x : Config ℕ ℕ). x ++ (receiverLeaves (words es) (choicesOf choices) R S (agentIn a p) (agentIn a q) ++ senderLeaves (words es) (choicesOf choices) S (agentIn a q)))
+        (keep-same (stays (sortOf (p .kind)) r s) (remains (leb 6 (p .kind)) r s) c (λ i. stays-kind (p .kind) r s i receiver-kind (small-kind read (thread-reads r hr))))
+
+    -- the entries after the step
+    abbrev ds : List Entry
+    ds = listAfter es (sortOf (p .kind)) R S
+
+    after-is : markersAfter a es c u ≡ ds
+    unfolding markersAfter
+    after-is = ap (λ y. elim y [ none ↦ es | some g ↦ listAfter es (g .sort) R S ]) receiver-is
+
+    pub marker-is : markerMade a m u ≡ k
+    unfolding markerMade
+    marker-is = ap (λ y. elim y [ none ↦ 0 | some g ↦ markerOf (words es) (g .sort) R S ]) receiver-is
+
+    pub step-is : stepIn a m u ≡ fitted a m (advanced f t choices c r s k p q) ds
+    unfolding stepIn onAnswer
+    step-is =
+        ap₂ (λ (x : List Entry) (y : Answer ℕ ℕ). onAnswer a m x y) after-is (made .1 ∙ ap next (meet .1 ∙ ap₂ (stepped (words es) c u) p-is q-is ∙ stepped-is))
+
+    pub length-advanced : (n : ℕ) → length (advanced f t choices c r s n p q)
+        ≡ count - cond (leb 6 (p .kind)) 1 2 + (length (unfolded f t choices (p .left) 0 []) + length (unfolded f t choices (q .left) 0 []))
+    unfolding advanced
+    length-advanced n =
+        rw (length-append (keep (remains (leb 6 (p .kind)) r s) c) _, length-append (unfolded f t choices (p .left) n _) _)
+        (ap₂ _+_
+        (length-keep (p .kind) r s c receiver-kind (small-kind read (thread-reads r hr)) apart (rw len hr) (rw len hs) ∙ ap (λ (x : ℕ). x - cond (leb 6 (p .kind)) 1 2) len)
+        (ap₂ _+_ (length-unfolded f t choices (p .left) n 0 _ []) (length-unfolded f t choices (q .left) _ 0 _ [])))
+
+    -- ---- what becomes of it
+
+    -- the step under marker number n: its threads fit, and so do its entries
+    result : (n : ℕ) → n ≡ k → (l′ ml′ : List ℕ) (size j : ℕ) → l′ ≡ put 0 (wordsOf (advanced f t choices c r s n p q)) l → size ≡ length (advanced f t choices c r s n p q)
+        → size ≤ threadRoom (t .names) l → ml′ ≡ put 0 (numbersOf ds) ml → j ≡ length ds → j ≤ markerRoom ml → stepIn a m u ≡ leaves (memory l′ size ml′ j)
+    unfolding fitted store
+    result n e l′ ml′ size j el es room em ej most =
+        let d = advanced f t choices c r s n p q in
+        step-is
+        ∙ ap (λ (x : ℕ). fitted a m (advanced f t choices c r s x p q) ds) (sym e)
+        ∙ rw (le-leb (length d) (threadRoom (t .names) l) (rw (← es) room), le-leb (length ds) (markerRoom ml) (rw (← ej) most))
+        (λ i. leaves record { threads = sym el i; threadCount = sym es i; markers = sym em i; markerCount = sym ej i })
+
+    -- too many threads
+    pub crowded : threadRoom (t .names) l < length (advanced f t choices c r s 0 p q) → stepIn a m u ≡ stops 28
+    unfolding fitted
+    crowded h =
+        let e : length (advanced f t choices c r s k p q) ≡ length (advanced f t choices c r s 0 p q) = length-advanced k ∙ sym (length-advanced 0) in
+        step-is ∙ rw (lt-leb (length (advanced f t choices c r s k p q)) (threadRoom (t .names) l) (rw e h))
+
+    -- markers as they are
+    pub kept-entries : put 0 (numbersOf es) ml ≡ ml
+    kept-entries =
+        let b : 4 * listed ≤ length ml = marker-room listed ml (sound .markersFit) .1 in
+        ap (λ (x : List ℕ). put 0 x ml) (numbers-entries listed ml b) ∙ put-same 0 (4 * listed) ml (omega arith)
+
+    entries-count : length es ≡ listed
+    entries-count = length-entries listed ml
+
+    -- an in's continuation keeps its marker
+    module _ (in-kind : p .kind ≡ 5) where
+      in-marker : getD l (r * w + 1) 0 ≡ k
+      unfolding markerOf
+      in-marker = rw in-kind (ap (λ (x : Thread ℕ ℕ). x .marker) (sym R-is))
+
+      in-entries : ds ≡ es
+      unfolding listAfter
+      in-entries = rw in-kind
+
+      pub in-made : (l′ : List ℕ) (size : ℕ) → l′ ≡ put 0 (wordsOf (advanced f t choices c r s (getD l (r * w + 1) 0) p q)) l
+          → size ≡ length (advanced f t choices c r s (getD l (r * w + 1) 0) p q) → size ≤ threadRoom (t .names) l
+          → stepIn a m u ≡ leaves (memory l′ size ml listed)
+      in-made l′ size el es room =
+          result (getD l (r * w + 1) 0) in-marker l′ ml size listed el es room (rw in-entries (sym kept-entries)) (rw in-entries (sym entries-count)) (sound .markersFit)
+
+      pub in-told : getD l (r * w + 1) 0 ≡ markerMade a m u
+      in-told = in-marker ∙ sym marker-is
+
+    -- a resource's runs under a marker of its own
+    module _ (own-kind : 6 ≤ p .kind) where
+      abbrev pub entry : Entry
+      entry = record { resource = getD l (r * w) 0; out = getD l (s * w) 0; left = getD l (r * w + 1) 0; right = getD l (s * w + 1) 0 }
+
+      six : sortOf (p .kind) ≡ resource
+      six = rw (ne-eqb (p .kind) 4 (λ e. absurd (omega arith)), ne-eqb (p .kind) 5 (λ e. absurd (omega arith)))
+
+      made-entry : record { resource = R .agent; out = S .agent; left = R .marker; right = S .marker } ≡ entry
+      made-entry =
+          ap₂ (λ (x y : Thread ℕ ℕ). record { resource = x .agent; out = y .agent; left = x .marker; right = y .marker }) R-is S-is
+
+      own-marker : k ≡ suc (position entry es)
+      unfolding markerOf words
+      own-marker = ap (λ (x : Sort). markerOf (words es) x R S) six ∙ ap (λ (x : Entry). suc (position x es)) made-entry
+
+      own-entries : ds ≡ extend es entry
+      unfolding listAfter
+      own-entries = ap (λ (x : Sort). listAfter es x R S) six ∙ ap (extend es) made-entry
+
+      module _ (l′ : List ℕ) (size : ℕ) (room : size ≤ threadRoom (t .names) l) where
+        -- listed already
+        pub found-made : position entry es < listed → l′ ≡ put 0 (wordsOf (advanced f t choices c r s (position entry es + 1) p q)) l
+            → size ≡ length (advanced f t choices c r s (position entry es + 1) p q) → stepIn a m u ≡ leaves (memory l′ size ml listed)
+        unfolding extend
+        found-made h el es′ =
+            let e : ds ≡ es = own-entries ∙ rw (lt-ltb (position entry es) (length es) (rw entries-count h)) in
+            result (position entry es + 1) (rw own-marker (add-one (position entry es))) l′ ml size listed el es′ room (rw e (sym kept-entries)) (rw e (sym entries-count)) (sound .markersFit)
+
+        -- appended
+        pub added-made : listed ≤ position entry es → listed < markerRoom ml → (ml′ : List ℕ) → ml′ ≡ put (4 * listed) (entryNumbers entry) ml
+            → l′ ≡ put 0 (wordsOf (advanced f t choices c r s (listed + 1) p q)) l → size ≡ length (advanced f t choices c r s (listed + 1) p q)
+            → stepIn a m u ≡ leaves (memory l′ size ml′ (listed + 1))
+        unfolding extend
+        added-made h most ml′ em el es′ =
+            let here : position entry es ≡ listed = let b = position-le entry es in let n = entries-count in omega arith in
+            let e : ds ≡ es ++ (entry ∷ []) = own-entries ∙ rw (le-ltb (position entry es) (length es) (rw entries-count h)) in
+            let b : 4 * listed ≤ length ml = marker-room listed ml (sound .markersFit) .1 in
+            let b′ : 4 * listed + 4 ≤ length ml = let z = marker-room (listed + 1) ml (omega arith) .1 in omega arith in
+            result (listed + 1) (rw (own-marker, here) (add-one listed)) l′ ml′ size (listed + 1) el es′ room
+            (em ∙ put-from (4 * listed) (entryNumbers entry) ml b′
+            ∙ ap (λ (x : List ℕ). put 0 x ml) (ap (λ (x : List ℕ). x ++ entryNumbers entry) (sym (numbers-entries listed ml b)) ∙ sym (one-more es entry) ∙ ap numbersOf (sym e)))
+            (rw (e, length-append es (entry ∷ []), entries-count)) (omega arith)
+
+      -- no room for it
+      pub unlisted : listed ≤ position entry es → markerRoom ml ≤ listed → length (advanced f t choices c r s 0 p q) ≤ threadRoom (t .names) l → stepIn a m u ≡ stops 29
+      unfolding fitted extend
+      unlisted h most room =
+          let e : length (advanced f t choices c r s k p q) ≡ length (advanced f t choices c r s 0 p q) = length-advanced k ∙ sym (length-advanced 0) in
+          let z : ds ≡ es ++ (entry ∷ []) = own-entries ∙ rw (le-ltb (position entry es) (length es) (rw entries-count h)) in
+          let n : length ds ≡ listed + 1 = rw (z, length-append es (entry ∷ []), entries-count) in
+          step-is
+          ∙ rw (le-leb (length (advanced f t choices c r s k p q)) (threadRoom (t .names) l) (rw e room), lt-leb (length ds) (markerRoom ml) (omega arith))
+
+      pub found-told : position entry es + 1 ≡ markerMade a m u
+      found-told = rw (marker-is, own-marker) (add-one (position entry es))
+
+      pub added-told : listed ≤ position entry es → listed + 1 ≡ markerMade a m u
+      added-told h =
+          let here : position entry es ≡ listed = let b = position-le entry es in let n = entries-count in omega arith in
+          ap (λ (x : ℕ). x + 1) (sym here) ∙ found-told

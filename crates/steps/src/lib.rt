@@ -1,20 +1,21 @@
 // The step of a ready pair, made in place on lent lists, or refused by 28 or 29 with every word as it was.
 // Promises the model's step of the lists. Depends on unfolds, threads, ready, markers, frees, arrays, records, wire, model and laws.
 ghost use mathlib.Core.Path.{_≡_};
-ghost use mathlib.Core.Bool.{cond};
+ghost use mathlib.Core.Bool.{true, cond};
 ghost use Prim.Native.Nat.{ℕ, _+_, _*_, _-_, _<_, _≤_, min};
 ghost use mathlib.Core.List.{[]};
 ghost use lib.Dec.{leb};
-ghost use lib.ListN.{length, getD, drop};
+ghost use lib.ListN.{length, getD};
 ghost use Rattle.laws.specs.Lists.{put};
-ghost use Rattle.model.specs.Calculus.{choicesOf};
-ghost use Rattle.model.specs.Memory.{threadIn, threadsIn, wordsOf, try, stepIn, formed};
+ghost use Rattle.model.specs.Numbers.{nobody};
+ghost use Rattle.model.specs.Memory.{threadsIn, wordsOf, threadRoom, formed};
 ghost use Rattle.records.specs.Record.{arrayOf};
 ghost use Rattle.arrays.specs.File.{IsRead};
 ghost use Rattle.frees.specs.Frees.{AllFree};
 ghost use Rattle.unfolds.specs.Unfold.{unfolded};
 ghost use Rattle.ready.specs.Ready.{meeting};
-ghost use Rattle.steps.specs.Steps.{memory, Pair, advanced, markerMade, Leaves, Tells};
+ghost use Rattle.markers.specs.Markers.{entryOf};
+ghost use Rattle.steps.specs.Steps.{memory, Pair, ReadyPair, entryAt, advanced, Fires};
 use markers::Entry;
 use records::Record;
 use records::Trailer;
@@ -100,7 +101,14 @@ fn advance_here(
 }
 
 // How many threads there are after the step of a pair, of `count` threads; a number above 256 stands for any.
-fn threads_after(file: &[u8], t: Trailer, choices: &[u8], p: Record, q: Record, count: usize) -> usize
+fn threads_after(
+    file: &[u8],
+    t: Trailer,
+    choices: &[u8],
+    p: Record,
+    q: Record,
+    count: usize,
+) -> usize
     requires { ⌜ IsRead (now file) t × (length (now choices) ≡ 128) × (p .left < t .nodes) × (q .left < t .nodes) × (2 ≤ count) × (count ≤ 256) ⌝ }
     ensures { λ n. ⌜ n ≡ count - cond (leb 6 (p .kind)) 1 2 + (min 257 (length (unfolded (now (file .entry)) t (now (choices .entry)) (p .left) 0 []))
         + min 257 (length (unfolded (now (file .entry)) t (now (choices .entry)) (q .left) 0 []))) ⌝ }
@@ -111,4 +119,141 @@ fn threads_after(file: &[u8], t: Trailer, choices: &[u8], p: Record, q: Record, 
         return count - 1 + (near + far);
     }
     count - 2 + (near + far)
+}
+
+// The entry of a resource's new marker, from the words of the two threads at `at` and `from`.
+fn entry_of(threads: &[u32], at: usize, from: usize) -> Entry
+    requires { ⌜ (at + 1 < length (now threads)) × (from + 1 < length (now threads)) ⌝ }
+    requires { ⌜ (getD (now threads) at 0 < 65536) × (getD (now threads) (at + 1) 0 < 65536) × (getD (now threads) from 0 < 65536) × (getD (now threads) (from + 1) 0 < 65536) ⌝ }
+    ensures { λ e. ⌜ entryOf e ≡ entryAt (now (threads .entry)) at from ⌝ }
+{
+    Entry {
+        resource: threads[at] as u16,
+        out: threads[from] as u16,
+        left: threads[at + 1] as u16,
+        right: threads[from + 1] as u16,
+    }
+}
+
+// The step of a ready pair whose receiver is a resource: `total` threads fit.
+fn fire_resource(
+    file: &[u8],
+    t: Trailer,
+    table: &[u64],
+    choices: &[u8],
+    threads: &mut [u32],
+    count: usize,
+    markers: &mut [u16],
+    listed: usize,
+    r: usize,
+    s: usize,
+    p: Record,
+    q: Record,
+    total: usize,
+) -> Fired
+    requires { ⌜ IsRead (now file) t × (length (now choices) ≡ 128) × (length (now table) ≡ 4096) × AllFree (now table) (arrayOf (now file) t) ⌝ }
+    requires { ⌜ ReadyPair (now file) t (now threads) count (now markers) listed r s p q × (6 ≤ p .kind) ⌝ }
+    requires { ⌜ (total ≡ length (advanced (now file) t (now choices) (threadsIn (t .names) count (now threads)) r s 0 p q)) × (total ≤ threadRoom (t .names) (now threads)) ⌝ }
+    ensures { λ e. ⌜ Fires (now (file .entry)) t (now (choices .entry)) (now (threads .entry)) count (now (markers .entry)) listed r s e (now (threads .exit)) (now (markers .exit)) ⌝ }
+{
+    let width = 2 + t.names;
+    let e = entry_of(threads, r * width, s * width);
+    let k = markers::find_entry(markers, listed, e);
+    if k < listed {
+        let mark = (k + 1) as u32;
+        advance_here(file, t, table, choices, threads, count, r, s, p, q, mark);
+        return Fired::Made(total, listed, mark);
+    }
+    if (4096 <= listed) | (markers.len() / 4 <= listed) {
+        return Fired::Stopped(29);
+    }
+    markers::add_entry(markers, listed, e);
+    let mark = (listed + 1) as u32;
+    advance_here(file, t, table, choices, threads, count, r, s, p, q, mark);
+    Fired::Made(total, listed + 1, mark)
+}
+
+// The step of a ready pair with these records, or its refusal by 28 or 29.
+fn fire_pair(
+    file: &[u8],
+    t: Trailer,
+    table: &[u64],
+    choices: &[u8],
+    threads: &mut [u32],
+    count: usize,
+    markers: &mut [u16],
+    listed: usize,
+    r: usize,
+    s: usize,
+    p: Record,
+    q: Record,
+) -> Fired
+    requires { ⌜ IsRead (now file) t × (length (now choices) ≡ 128) × (length (now table) ≡ 4096) × AllFree (now table) (arrayOf (now file) t) ⌝ }
+    requires { ⌜ ReadyPair (now file) t (now threads) count (now markers) listed r s p q ⌝ }
+    ensures { λ e. ⌜ Fires (now (file .entry)) t (now (choices .entry)) (now (threads .entry)) count (now (markers .entry)) listed r s e (now (threads .exit)) (now (markers .exit)) ⌝ }
+{
+    let width = 2 + t.names;
+    let total = threads_after(file, t, choices, p, q, count);
+    if (256 < total) | (threads.len() / width < total) {
+        return Fired::Stopped(28);
+    }
+    if 6 <= p.kind {
+        return fire_resource(
+            file,
+            t,
+            table,
+            choices,
+            threads,
+            count,
+            markers,
+            listed,
+            r,
+            s,
+            p,
+            q,
+            total,
+        );
+    }
+    let mark = threads[r * width + 1];
+    advance_here(file, t, table, choices, threads, count, r, s, p, q, mark);
+    Fired::Made(total, listed, mark)
+}
+
+// The step of a ready pair, or its refusal by 28 or 29.
+pub fn fire(
+    file: &[u8],
+    t: Trailer,
+    table: &[u64],
+    choices: &[u8],
+    threads: &mut [u32],
+    count: usize,
+    markers: &mut [u16],
+    listed: usize,
+    r: usize,
+    s: usize,
+) -> Fired
+    requires { ⌜ IsRead (now file) t × (length (now choices) ≡ 128) × (length (now table) ≡ 4096) × AllFree (now table) (arrayOf (now file) t) ⌝ }
+    requires { ⌜ formed (arrayOf (now file) t) (memory (now threads) count (now markers) listed) ≡ true × (r < count) × (s < count) ⌝ }
+    requires { ⌜ meeting (arrayOf (now file) t) (getD (threadsIn (t .names) count (now threads)) r nobody) (getD (threadsIn (t .names) count (now threads)) s nobody) ≡ 0 ⌝ }
+    ensures { λ e. ⌜ Fires (now (file .entry)) t (now (choices .entry)) (now (threads .entry)) count (now (markers .entry)) listed r s e (now (threads .exit)) (now (markers .exit)) ⌝ }
+{
+    let width = 2 + t.names;
+    let i = wire::wide(threads[r * width]);
+    let j = wire::wide(threads[s * width]);
+    let p = records::record_at(file, t.start + 16 * i);
+    let q = records::record_at(file, t.start + 16 * j);
+    fire_pair(
+        file,
+        t,
+        table,
+        choices,
+        threads,
+        count,
+        markers,
+        listed,
+        r,
+        s,
+        p,
+        q,
+    )
 }

@@ -91,8 +91,10 @@ returns c =
     let x = c .before .before .before .before .before .before .args in
     let l = c .before .loop in
     let done : l .k ≡ 0 = omega arith in
-    l .inv .1 ∙ ap (λ (k : ℕ). boundFrom k (x .p .arity) (x .p .args) (x .q .args) (now (x .sent)) (now (x .env))) done
-    ∙ ap (λ (n : ℕ). bind (take (x .p .arity) (x .p .args)) (map (λ z. getD (now (x .sent)) z 0) (take n (x .q .args))) (now (x .env))) (c .before .before .before .before .before .before .pre .0 .0)
+    let same = c .before .before .before .before .before .before .pre .0 .0 in
+    l .inv .1
+    ∙ ap (λ (k : ℕ). boundFrom k (x .p .arity) (x .p .args) (x .q .args) (now (x .sent)) (now (x .env))) done
+    ∙ ap (λ (n : ℕ). bind (take (x .p .arity) (x .p .args)) (map (λ z. getD (now (x .sent)) z 0) (take n (x .q .args))) (now (x .env))) same
 
 pub bind-params-spec : {M : Type 1} → statement M
 bind-params-spec =

@@ -24,11 +24,12 @@ add-result c = search needs
 returns-2 : tie.Need-returns-2
 returns-2 c =
     let x = c .before .before .before .args in
+    let l = now (x .threads) in
+    let room = c .before .before .before .pre .1 in
     let e : x .to ≡ x .from = c .if2 .taken in
-    let n = stays-length (x .from) (x .width) (now (x .threads)) (c .before .before .before .pre .1) in
     rw (not-false (x .stays) (c .before .if1 .left)) (
-      sym (ap (λ (k : ℕ). put k (take (x .width) (drop (x .from) (now (x .threads)))) (now (x .threads))) e ∙ put-same (x .from) (x .width) (now (x .threads)) (c .before .before .before .pre .1)),
-      ap (λ (k : ℕ). x .to + k) (sym n),
+      sym (ap (λ (k : ℕ). put k (take (x .width) (drop (x .from) l)) l) e ∙ put-same (x .from) (x .width) l room),
+      ap (λ (k : ℕ). x .to + k) (sym (stays-length (x .from) (x .width) l room)),
     )
 
 move-down-requires : tie.Need-move-down-requires
@@ -40,8 +41,9 @@ add-result-2 c = search needs
 same-length : tie.Need-same-length
 same-length c =
     let x = c .before .before .before .before .before .before .before .args in
-    let n = stays-length (x .from) (x .width) (now (x .threads)) (c .before .before .before .before .before .before .before .pre .1) in
-    ap length (c .before .before .move-down .ensures) ∙ length-put (x .to) (take (x .width) (drop (x .from) (now (x .threads)))) (now (x .threads)) (omega arith)
+    let l = now (x .threads) in
+    let n = stays-length (x .from) (x .width) l (c .before .before .before .before .before .before .before .pre .1) in
+    ap length (c .before .before .move-down .ensures) ∙ length-put (x .to) (take (x .width) (drop (x .from) l)) l (omega arith)
 
 returns-3 : tie.Need-returns-3
 returns-3 c =

@@ -41,12 +41,14 @@ loop-holds c =
 
 keep-if-requires : tie.Need-keep-if-requires Inv-loop μ-loop
 keep-if-requires c κs =
-    let z = slot (c .before .before .before .before .args .names) (c .before .before .loop .i) (c .before .before .before .before .args .count) (c .before .loop-test .taken) in
+    let x = c .before .before .before .before .args in
+    let z = slot (x .names) (c .before .before .loop .i) (x .count) (c .before .loop-test .taken) in
     search needs
 
 add-from : tie.Need-add-from Inv-loop μ-loop
 add-from c =
-    let z = slot (c .before .before .before .before .before .before .before .args .names) (c .before .before .before .before .before .loop .i) (c .before .before .before .before .before .before .before .args .count) (c .before .before .before .before .loop-test .taken) in
+    let x = c .before .before .before .before .before .before .before .args in
+    let z = slot (x .names) (c .before .before .before .before .before .loop .i) (x .count) (c .before .before .before .before .loop-test .taken) in
     search needs
 
 add-i : tie.Need-add-i Inv-loop μ-loop
@@ -60,23 +62,22 @@ unfolding remains
 loop-again c =
     let x = c .before .before .before .before .before .before .before .args in
     let l = c .before .before .before .before .before .loop in
-    let z = slot (x .names) (l .i) (x .count) (c .before .before .before .before .loop-test .taken) in
+    let old = now (x .threads) in
+    let below = c .before .before .before .before .loop-test .taken in
+    let z = slot (x .names) (l .i) (x .count) below in
     let e = next-slot (x .names) (l .i) in
     let f = remains (x .resource) (x .r) (x .s) in
-    let turn = kept-turn (x .names) (x .count) (now (x .threads)) f (c .before .before .before .before .before .before .before .pre .0) (l .i) (c .before .before .before .before .loop-test .taken) (l .to) (l .from) (l .threads)
+    let ys = wordsIf (f (l .i)) (l .from) (2 + x .names) (l .threads) in
+    let room = c .before .before .before .before .before .before .before .pre .0 in
+    let turn = kept-turn (x .names) (x .count) old f room (l .i) below (l .to) (l .from) (l .threads)
     (l .inv .3) (l .inv .2) (l .inv .1) (l .inv .4) in
     let w = if-length (f (l .i)) (l .from) (2 + x .names) (l .threads) (omega arith) in
     let k = c .before .before .keep-if .ensures in
-    let q : c .before .before .keep-if .result ≡ l .to + length (wordsIf (f (l .i)) (l .from) (2 + x .names) (l .threads)) = k .1 in
-    let d : c .before .before .keep-if .result ≤ l .from + (2 + x .names) = omega arith in
-    let used : c .before .before .keep-if .result ≡ length (kept (x .names) (x .count) (now (x .threads)) f (l .i + 1)) = q ∙ turn .1 in (
-      omega arith,
-      omega arith,
-      d,
-      used,
-      k .0 ∙ turn .0,
-      ap length (k .0 ∙ turn .0) ∙ length-put 0 (kept (x .names) (x .count) (now (x .threads)) f (l .i + 1)) (now (x .threads)) (omega arith),
-    )
+    let n : c .before .before .keep-if .result ≡ l .to + length ys = k .1 in
+    let used : c .before .before .keep-if .result ≡ length (kept (x .names) (x .count) old f (l .i + 1)) = n ∙ turn .1 in
+    let less : c .before .before .keep-if .result ≤ l .from + (2 + x .names) = omega arith in
+    let new = k .0 ∙ turn .0 in
+    (omega arith, omega arith, less, used, new, ap length new ∙ length-put 0 (kept (x .names) (x .count) old f (l .i + 1)) old (omega arith))
 
 same-length : tie.Need-same-length Inv-loop μ-loop
 same-length c = search needs

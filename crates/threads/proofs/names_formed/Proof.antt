@@ -52,8 +52,12 @@ returns c =
     let x = c .before .before .before .before .before .before .before .before .before .args in
     let l = c .before .before .before .before .before .loop in
     let f : ℕ → Bool = wordsTest (now (x .table)) (now (x .news)) (x .marks) (x .i) (now (x .threads)) (x .at) in
+    let word = getD (now (x .threads)) (x .at + l .v) 0 in
     let e : c .before .word-formed .result ≡ f (l .v) =
-    c .before .word-formed .ensures ∙ ap (λ (b : Bool). wordOk (marked (now (x .news)) 0) (x .marks) b (getD (now (x .threads)) (x .at + l .v) 0)) (c .before .before .before .is-marked .ensures) in sym (every-fails (x .names) f (l .v) (c .before .before .before .before .loop-test .taken) (sym e ∙ not-true (c .before .word-formed .result) (c .if1 .taken)))
+    c .before .word-formed .ensures
+    ∙ ap (λ (b : Bool). wordOk (marked (now (x .news)) 0) (x .marks) b word) (c .before .before .before .is-marked .ensures) in
+    let below = c .before .before .before .before .loop-test .taken in
+    sym (every-fails (x .names) f (l .v) below (sym e ∙ not-true (c .before .word-formed .result) (c .if1 .taken)))
 
 add-v : tie.Need-add-v Inv-loop μ-loop
 add-v c = search needs
@@ -66,8 +70,11 @@ loop-again c =
     let x = c .before .before .before .before .before .before .before .before .before .args in
     let l = c .before .before .before .before .before .loop in
     let f : ℕ → Bool = wordsTest (now (x .table)) (now (x .news)) (x .marks) (x .i) (now (x .threads)) (x .at) in
+    let word = getD (now (x .threads)) (x .at + l .v) 0 in
     let e : c .before .word-formed .result ≡ f (l .v) =
-    c .before .word-formed .ensures ∙ ap (λ (b : Bool). wordOk (marked (now (x .news)) 0) (x .marks) b (getD (now (x .threads)) (x .at + l .v) 0)) (c .before .before .before .is-marked .ensures) in (omega arith, every-more f (l .v) (l .inv .1) (sym e ∙ not-false (c .before .word-formed .result) (c .if1 .left)))
+    c .before .word-formed .ensures
+    ∙ ap (λ (b : Bool). wordOk (marked (now (x .news)) 0) (x .marks) b word) (c .before .before .before .is-marked .ensures) in
+    (omega arith, every-more f (l .v) (l .inv .1) (sym e ∙ not-false (c .before .word-formed .result) (c .if1 .left)))
 
 returns-2 : tie.Need-returns-2 Inv-loop μ-loop
 returns-2 c =

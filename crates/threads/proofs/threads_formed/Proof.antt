@@ -1,5 +1,5 @@
 -- `threads::threads_formed` meets its contract. The loop's invariant: the first i threads are well formed.
-use Prim.Native.Nat.{ℕ, _+_, _*_, _-_, _≤_}
+use Prim.Native.Nat.{ℕ, _+_, _*_, _-_, _≤_, _<_}
 use native.Mathlib.Nat.{zero-mul}
 use native.Mathlib.Omega.{arith}
 use mathlib.Core.Path.{_≡_, sym, ap, _∙_}
@@ -24,6 +24,11 @@ use Rattle.threads.proofs.threads_formed.Tie as tie
 -- thread i is well formed
 abbrev threadTest : List ℕ → Trailer → ℕ → List ℕ → ℕ → ℕ → Bool
 threadTest file t marks threads count i = threadFormed (arrayOf file t) marks (getD (threadsIn (t .names) count threads) i nobody)
+
+test-at : (file : List ℕ) (t : Trailer) (marks : ℕ) (threads : List ℕ) (count i at : ℕ) → i < count → at ≡ i * (2 + t .names)
+    → threadFormed (arrayOf file t) marks (threadIn (t .names) (drop at threads)) ≡ threadTest file t marks threads count i
+test-at file t marks threads count i at h e =
+    ap (threadFormed (arrayOf file t) marks) (ap (λ (k : ℕ). threadIn (t .names) (drop k threads)) e ∙ sym (threads-at (t .names) i count threads h))
 
 abbrev Inv-loop : tie.InvT-loop
 Inv-loop file t table news marks threads count width at₀ i₀ at i =
@@ -50,12 +55,10 @@ unfolding threadsFormed
 returns c =
     let x = c .before .before .before .before .before .before .before .before .before .args in
     let l = c .before .before .before .loop in
-    let z = slot (x .t .names) (l .i) (x .count) (c .before .before .loop-test .taken) in
     let f : ℕ → Bool = threadTest (now (x .file)) (x .t) (x .marks) (now (x .threads)) (x .count) in
     let e : c .before .thread-formed .result ≡ f (l .i) =
     c .before .thread-formed .ensures
-    ∙ ap (threadFormed (arrayOf (now (x .file)) (x .t)) (x .marks))
-    (ap (λ (k : ℕ). threadIn (x .t .names) (drop k (now (x .threads)))) (l .inv .1) ∙ sym (threads-at (x .t .names) (l .i) (x .count) (now (x .threads)) (c .before .before .loop-test .taken))) in
+    ∙ test-at (now (x .file)) (x .t) (x .marks) (now (x .threads)) (x .count) (l .i) (l .at) (c .before .before .loop-test .taken) (l .inv .1) in
     sym (every-fails (x .count) f (l .i) (c .before .before .loop-test .taken) (sym e ∙ not-true (c .before .thread-formed .result) (c .if1 .taken)))
 
 add-at : tie.Need-add-at Inv-loop μ-loop
@@ -75,12 +78,10 @@ loop-again : tie.Need-loop-again Inv-loop μ-loop
 loop-again c =
     let x = c .before .before .before .before .before .before .before .before .before .args in
     let l = c .before .before .before .loop in
-    let z = slot (x .t .names) (l .i) (x .count) (c .before .before .loop-test .taken) in
     let f : ℕ → Bool = threadTest (now (x .file)) (x .t) (x .marks) (now (x .threads)) (x .count) in
     let e : c .before .thread-formed .result ≡ f (l .i) =
     c .before .thread-formed .ensures
-    ∙ ap (threadFormed (arrayOf (now (x .file)) (x .t)) (x .marks))
-    (ap (λ (k : ℕ). threadIn (x .t .names) (drop k (now (x .threads)))) (l .inv .1) ∙ sym (threads-at (x .t .names) (l .i) (x .count) (now (x .threads)) (c .before .before .loop-test .taken))) in
+    ∙ test-at (now (x .file)) (x .t) (x .marks) (now (x .threads)) (x .count) (l .i) (l .at) (c .before .before .loop-test .taken) (l .inv .1) in
     let s = next-slot (x .t .names) (l .i) in
     (omega arith, omega arith, every-more f (l .i) (l .inv .2) (sym e ∙ not-false (c .before .thread-formed .result) (c .if1 .left)))
 
