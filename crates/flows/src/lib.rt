@@ -1,32 +1,16 @@
 // Flow rows as rows of marks, and refusal 19.
-// Promises the bits of the file and refusal19 of layout. Depends on layout, records, marks, wire, model and laws.
+// Promises the bits of the file and refusal19 of layout. Depends on layout, frees, records, marks, wire, model and laws.
 // A call takes 8,192 bytes of stack for the rows.
 ghost use mathlib.Core.Path.{_≡_};
 ghost use Prim.Native.Nat.{ℕ, _+_, _*_, _<_, _≤_};
 ghost use lib.ListN.{length};
 ghost use Rattle.marks.specs.Marks.{marked};
-ghost use Rattle.model.specs.Tree.{isNew};
 ghost use Rattle.records.specs.Record.{arrayOf, foundOf};
 ghost use Rattle.layout.specs.Table.{rowBit, refusal19};
 use layout::Sizes;
 use records::Check;
 use records::Refusal;
 use records::Trailer;
-
-// The names that news open, marked in a row.
-pub fn opened(file: &[u8], t: Trailer) -> [u64; 4]
-    requires { ⌜ t .start + 16 * t .nodes ≤ length (now file) ⌝ }
-    ensures { λ row. ⌜ ((o : ℕ) → marked row 0 o ≡ isNew (arrayOf (now (file .entry)) t) o) ⌝ }
-{
-    let mut row = [0u64; 4];
-    let mut i: usize = 0;
-    while i < t.nodes {
-        let r = records::record_at(file, t.start + 16 * i);
-        marks::mark_if(&mut row, r.kind == 1, r.name);
-        i += 1;
-    }
-    row
-}
 
 // The flow rows, four words each.
 pub fn flow_rows(table: &[u8], names: usize) -> [u64; 1024]
@@ -48,7 +32,7 @@ pub fn bad_row(file: &[u8], t: Trailer, table: &[u8], z: Sizes) -> Check
     requires { ⌜ (z .names ≤ 256) × (32 * z .names ≤ length (now table)) ⌝ }
     ensures { λ r. ⌜ foundOf r ≡ refusal19 (arrayOf (now (file .entry)) t) (now (table .entry)) z ⌝ }
 {
-    let news = opened(file, t);
+    let news = frees::opened(file, t);
     let rows = flow_rows(table, z.names);
     let mut v: usize = 0;
     while v < z.names {

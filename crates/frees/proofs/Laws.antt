@@ -1,4 +1,5 @@
--- The free names of a node from what it uses, what it binds and what is free in its children; and the table while node i's row is filled.
+-- The row of the names that news open; the free names of a node from what it uses, what it binds and what is free in its children; and
+-- the table while node i's row is filled.
 use Prim.Native.Nat.{ℕ, _+_, _*_, _/_, _%_, _<_}
 use native.Mathlib.Nat.{eq-or-lt-of-le, zero-add}
 use native.Mathlib.Omega.{arith}
@@ -11,23 +12,43 @@ use lib.Dec.{eqb, leb, ltb}
 use lib.ListN.{length, getD, set}
 use lib.Seq.{getD-set-same, getD-set-other}
 use borrow.Author.Tests.{eqb-false, le-leb, eq-eqb, lt-ltb}
-use Rattle.laws.specs.Search.{clear}
+use Rattle.laws.specs.Search.{clear, any}
 use Rattle.laws.specs.Lists.{has}
 use Rattle.laws.specs.Bits.{bit}
-use Rattle.laws.proofs.Search.{and-join, or-left, or-right}
+use Rattle.laws.proofs.Search.{and-join, or-left, or-right, any-step}
 use Rattle.laws.proofs.Lists.{has-here, has-later}
 use Rattle.laws.proofs.Bits.{bit-or, bit-less}
-use Rattle.marks.specs.Marks.{marked}
-use Rattle.model.specs.Tree.{Array, Sort, Node, out, inp, resource, freeBelow, nodeAt, procAt, isFree}
+use Rattle.marks.specs.Marks.{marked, markIf}
+use Rattle.marks.proofs.Laws.{marked-more}
+use Rattle.model.specs.Tree.{Array, Sort, Node, out, inp, resource, freeBelow, nodeAt, procAt, isFree, opens}
 use Rattle.model.specs.Nodes.{freeOf}
 use Rattle.model.specs.Formed.{children, params, binds, sent, uses, refusal8}
 use Rattle.model.proofs.Tree.{child-above}
 use Rattle.model.proofs.Nodes.{free-at}
 use Rattle.records.specs.declared.Record.{Record}
-use Rattle.records.specs.Record.{argsOf, nodeOf}
-use Rattle.records.proofs.Laws.{by-kind, kind-above}
+use Rattle.records.specs.declared.Trailer.{Trailer}
+use Rattle.records.specs.Record.{argsOf, recordOf, nodeOf, arrayOf}
+use Rattle.records.proofs.Laws.{by-kind, kind-above, node-of}
 use Rattle.scopes.proofs.Laws.{children-of}
 use Rattle.frees.specs.Frees.{atChild, RowFilled, FreeFrom}
+
+-- ---- the names that news open
+
+opens-of : (r : Record) (o : ℕ) → opens (nodeOf r) o ≡ eqb (r .kind) 1 && eqb o (r .name)
+unfolding opens
+opens-of r o =
+    by-kind r (λ k n. opens n o ≡ eqb k 1 && eqb o (r .name)) refl refl refl refl refl refl (λ k h. rw (kind-above k 1 h (omega arith)))
+
+-- the row has the names that the first j nodes open
+abbrev pub Opened : Array → List ℕ → ℕ → Type 0
+Opened a row j = (o : ℕ) → marked row 0 o ≡ any j (λ i. opens (nodeAt a i) o)
+
+pub opened-more : (s : List ℕ) (t : Trailer) (row : List ℕ) (j : ℕ) (r : Record) → length row ≡ 4 → r .name < 256 → j < t .nodes → r ≡ recordOf s t j
+    → Opened (arrayOf s t) row j → Opened (arrayOf s t) (markIf row (eqb (r .kind) 1) (r .name)) (j + 1)
+opened-more s t row j r four small h e before o =
+    marked-more row (eqb (r .kind) 1) (r .name) o four small
+    ∙ ap₂ _||_ (before o) (sym (opens-of r o) ∙ ap (λ (n : Node). opens n o) (ap nodeOf e ∙ sym (node-of s t j h)))
+    ∙ sym (any-step (λ i. opens (nodeAt (arrayOf s t) i) o) j)
 
 -- ---- a node's free names
 

@@ -1,11 +1,13 @@
-// The free names of all nodes, worked out once, from the last node to the first, into a table that the caller lends: a row of marks
-// for each node. Promises that each entry is that of the process tree. Depends on arrays, scopes, records, marks, model and laws.
+// The names that news open, as a row of marks; and the free names of all nodes, worked out once, from the last node to the first, into
+// a table that the caller lends: a row of marks for each node. Promises that each mark is that of the process tree.
+// Depends on arrays, scopes, records, marks, model and laws.
 ghost use mathlib.Core.Path.{_≡_};
 ghost use mathlib.Core.Bool.{true};
-ghost use Prim.Native.Nat.{ℕ, _+_, _*_, _<_};
+ghost use Prim.Native.Nat.{ℕ, _+_, _*_, _<_, _≤_};
 ghost use lib.ListN.{length, getD};
 ghost use Rattle.laws.specs.Lists.{has};
 ghost use Rattle.laws.specs.Bits.{bit};
+ghost use Rattle.model.specs.Tree.{isNew};
 ghost use Rattle.model.specs.Formed.{children, uses};
 ghost use Rattle.records.specs.Record.{nodeOf, arrayOf};
 ghost use Rattle.marks.specs.Marks.{marked};
@@ -13,6 +15,21 @@ ghost use Rattle.arrays.specs.File.{IsRead};
 ghost use Rattle.frees.specs.Frees.{atChild, RowsAbove, RowFilled, AllFree};
 use records::Record;
 use records::Trailer;
+
+// The names that news open, marked in a row.
+pub fn opened(file: &[u8], t: Trailer) -> [u64; 4]
+    requires { ⌜ t .start + 16 * t .nodes ≤ length (now file) ⌝ }
+    ensures { λ row. ⌜ ((o : ℕ) → marked row 0 o ≡ isNew (arrayOf (now (file .entry)) t) o) ⌝ }
+{
+    let mut row = [0u64; 4];
+    let mut i: usize = 0;
+    while i < t.nodes {
+        let r = records::record_at(file, t.start + 16 * i);
+        marks::mark_if(&mut row, r.kind == 1, r.name);
+        i += 1;
+    }
+    row
+}
 
 // The names that a record uses, marked: its channel, and what an out sends.
 fn used_by(r: Record) -> [u64; 4]

@@ -1,7 +1,6 @@
 // Refusal 23: whether a lent configuration is well formed.
 // Promises the model's `formed`. Depends on threads, markers, frees, arrays, records, model and laws.
 ghost use mathlib.Core.Path.{_≡_};
-ghost use Prim.Native.Nat.{_+_, _*_};
 ghost use lib.ListN.{length};
 ghost use Rattle.model.specs.Memory.{formed};
 ghost use Rattle.records.specs.Record.{arrayOf};
@@ -20,7 +19,8 @@ pub fn well_formed(
     listed: usize,
 ) -> bool
     requires { ⌜ IsRead (now file) t × (length (now table) ≡ 4096) × AllFree (now table) (arrayOf (now file) t) ⌝ }
-    ensures { λ b. ⌜ b ≡ formed (arrayOf (now (file .entry)) t) (record { threads = now (threads .entry); threadCount = count; markers = now (markers .entry); markerCount = listed }) ⌝ }
+    ensures { λ b. ⌜ b ≡ formed (arrayOf (now (file .entry)) t)
+        (record { threads = now (threads .entry); threadCount = count; markers = now (markers .entry); markerCount = listed }) ⌝ }
 {
     if (256 < count) | (threads.len() / (2 + t.names) < count) {
         return false;

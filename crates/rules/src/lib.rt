@@ -1,6 +1,6 @@
 // The five rules in number order, over an array file and a table file that were read.
 // Promises the model's verdict over the array and the table that the bytes stand for. Depends on pairs (rules 3 and 4), flows
-// and loads (the checker's own lists), layout, arrays, records, marks, wire, model and laws.
+// and loads (the checker's own lists), layout, frees (the names that news open), arrays, records, marks, wire, model and laws.
 // The lists take 106,600 bytes of stack.
 ghost use mathlib.Core.Path.{_≡_};
 ghost use Prim.Native.Nat.{ℕ, _<_, _≤_};
@@ -56,7 +56,7 @@ fn rule1(
     requires { ⌜ Ready (now file) t (now table) z (now rows) (now loads) (now bounds) ⌝ }
     ensures { λ r. ⌜ ruled r ≡ M.check1 (arrayOf (now (file .entry)) t) (tableOf (now (table .entry)) z) ⌝ }
 {
-    let news = flows::opened(file, t);
+    let news = frees::opened(file, t);
     let mut o: usize = 0;
     while o < z.names {
         let opened = marks::is_marked(&news, 0, o);

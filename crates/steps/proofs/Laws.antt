@@ -38,7 +38,7 @@ use Rattle.threads.specs.Threads.{remains}
 use Rattle.threads.proofs.Moves.{put-same}
 use Rattle.ready.specs.Ready.{meeting}
 use Rattle.ready.proofs.Attempts.{attempt-made}
-use Rattle.steps.specs.Steps.{memory, Pair, advanced, markerMade}
+use Rattle.steps.specs.Steps.{memory, Pair, ReadyPair, advanced, markerMade}
 
 some-inj : {g h : Agent} → some g ≡ some h → g ≡ h
 some-inj e = cc
@@ -157,221 +157,258 @@ module _ (f : List ℕ) (t : Trailer) (read : IsRead f t) (l : List ℕ) (count 
     pub thread-marker : getD l (i * w + 1) 0 ≤ length es
     thread-marker = subst (λ (x : Thread ℕ ℕ). x .marker ≤ length es) (thread-at (t .names) i count l h) (thread-ok .fine)
 
-  -- ---- a ready pair
+-- ---- a ready pair
 
-  module _ (r s : ℕ) (hr : r < count) (hs : s < count) (ready : meeting a (getD c r nobody) (getD c s nobody) ≡ 0) (choices : List ℕ) where
-    abbrev u : Attempt
-    u = try (choicesOf choices) r s
+module _ {f : List ℕ} {t : Trailer} {l : List ℕ} {count : ℕ} {ml : List ℕ} {listed r s : ℕ} {p q : Record} (read : IsRead f t)
+    (ok : ReadyPair f t l count ml listed r s p q) (choices : List ℕ) where
+  abbrev A : Array
+  A = arrayOf f t
 
-    abbrev p : Record
-    p = recordOf f t (getD l (r * w) 0)
+  abbrev W : ℕ
+  W = 2 + t .names
 
-    abbrev q : Record
-    q = recordOf f t (getD l (s * w) 0)
+  abbrev M : Memory
+  M = memory l count ml listed
 
-    abbrev R : Thread ℕ ℕ
-    R = getD c r nobody
+  abbrev C : Config ℕ ℕ
+  C = configOf A M
 
-    abbrev S : Thread ℕ ℕ
-    S = getD c s nobody
+  abbrev ES : List Entry
+  ES = entriesOf M
 
-    R-is : R ≡ record { agent = getD l (r * w) 0; marker = getD l (r * w + 1) 0; env = take (t .names) (drop (r * w + 2) l) }
-    R-is = thread-at (t .names) r count l hr
+  abbrev hr : r < count
+  hr = ok .receiver
 
-    S-is : S ≡ record { agent = getD l (s * w) 0; marker = getD l (s * w + 1) 0; env = take (t .names) (drop (s * w + 2) l) }
-    S-is = thread-at (t .names) s count l hs
+  abbrev hs : s < count
+  hs = ok .sender
 
-    made : (d : Config ℕ ℕ) × (attempt (words es) a c u ≡ next d)
-    made = attempt-made a es c u (rw len hr) (rw len hs) ready
+  pub ready-sound : Sound A M
+  ready-sound = sound f t read l count ml listed (ok .formed)
 
-    meet : (x : Meet (words es) a c u) × (made .0 ≡ stepped (words es) c u (x .p) (x .q))
-    meet = attempt-next (words es) a c u (made .0) (made .1)
+  ready-fit : (count ≤ 256) × (count * W ≤ length l)
+  ready-fit = fit f t read l count ml listed (ok .formed)
 
-    receiver-is : agentAt a (R .agent) ≡ some (agentIn a p)
-    receiver-is = ap (λ (x : Thread ℕ ℕ). agentAt a (x .agent)) R-is ∙ agent-is read (thread-reads r hr) (thread-agent r hr)
+  ready-len : length C ≡ count
+  ready-len = length-threads (t .names) count l
 
-    sender-is : agentAt a (S .agent) ≡ some (agentIn a q)
-    sender-is = ap (λ (x : Thread ℕ ℕ). agentAt a (x .agent)) S-is ∙ agent-is read (thread-reads s hs) (thread-agent s hs)
+  reads-p : Reads f t (getD l (r * W) 0) p
+  reads-p = record { below = thread-reads f t read l count ml listed (ok .formed) r hr .below; is = ok .p-is }
 
-    p-is : meet .0 .p ≡ agentIn a p
-    unfolding words
-    p-is = some-inj (sym (meet .0 .receiver) ∙ receiver-is)
+  reads-q : Reads f t (getD l (s * W) 0) q
+  reads-q = record { below = thread-reads f t read l count ml listed (ok .formed) s hs .below; is = ok .q-is }
 
-    q-is : meet .0 .q ≡ agentIn a q
-    unfolding words
-    q-is = some-inj (sym (meet .0 .sender) ∙ sender-is)
+  agent-p : 4 ≤ p .kind
+  agent-p = rw (ok .p-is) (thread-agent f t read l count ml listed (ok .formed) r hr)
 
-    pub receiver-kind : 5 ≤ p .kind
-    receiver-kind =
-        let e : receives (sortOf (p .kind)) ≡ true = ap (λ (x : Agent). receives (x .sort)) (sym p-is) ∙ meet .0 .receives in
-        let n = eqb-false (p .kind) 4 (not-true _ (sym (receives-kind (p .kind)) ∙ e)) in
-        lt-of-le-of-ne (thread-agent r hr) (λ z. n (sym z))
+  agent-q : 4 ≤ q .kind
+  agent-q = rw (ok .q-is) (thread-agent f t read l count ml listed (ok .formed) s hs)
 
-    pub sender-kind : q .kind ≡ 4
-    sender-kind =
-        let e : receives (sortOf (q .kind)) ≡ false = ap (λ (x : Agent). receives (x .sort)) (sym q-is) ∙ meet .0 .sends in
-        eqb-true (q .kind) 4 (not-false _ (sym (receives-kind (q .kind)) ∙ e))
+  abbrev u : Attempt
+  u = try (choicesOf choices) r s
 
-    pub pair : Pair f t l count r s p q
-    pair = record {
-      fits = fit .1;
-      few = fit .0;
-      receiver = hr;
-      sender = hs;
-      reads = thread-reads r hr;
-      other = thread-reads s hs;
-      receives = receiver-kind;
-      sends = sender-kind;
-      arities =
-          sym (arity-is read (thread-reads r hr)) ∙ ap (λ (x : Agent). length (x .args)) (sym p-is) ∙ meet .0 .arities
-          ∙ ap (λ (x : Agent). length (x .args)) q-is ∙ arity-is read (thread-reads s hs);
-    }
+  abbrev R : Thread ℕ ℕ
+  R = getD C r nobody
 
-    pub apart : r ≢ s
-    apart e = let z : p .kind ≡ q .kind = ap (λ (x : ℕ). recordOf f t (getD l (x * w) 0) .kind) e in absurd (omega (arith, receiver-kind, sender-kind))
+  abbrev S : Thread ℕ ℕ
+  S = getD C s nobody
 
-    -- the marker number of the receiver's continuation
-    abbrev k : ℕ
-    k = markerOf (words es) (sortOf (p .kind)) R S
+  R-is : R ≡ record { agent = getD l (r * W) 0; marker = getD l (r * W + 1) 0; env = take (t .names) (drop (r * W + 2) l) }
+  R-is = thread-at (t .names) r count l hr
 
-    stepped-is : stepped (words es) c u (agentIn a p) (agentIn a q) ≡ advanced f t choices c r s k p q
-    unfolding stepped advanced receiverLeaves senderLeaves words unfolded unfoldProc cutFrom
-    stepped-is =
-        ap (λ (x : Config ℕ ℕ). x ++ (receiverLeaves (words es) (choicesOf choices) R S (agentIn a p) (agentIn a q) ++ senderLeaves (words es) (choicesOf choices) S (agentIn a q)))
-        (keep-same (stays (sortOf (p .kind)) r s) (remains (leb 6 (p .kind)) r s) c (λ i. stays-kind (p .kind) r s i receiver-kind (small-kind read (thread-reads r hr))))
+  S-is : S ≡ record { agent = getD l (s * W) 0; marker = getD l (s * W + 1) 0; env = take (t .names) (drop (s * W + 2) l) }
+  S-is = thread-at (t .names) s count l hs
 
-    -- the entries after the step
-    abbrev ds : List Entry
-    ds = listAfter es (sortOf (p .kind)) R S
+  made : (d : Config ℕ ℕ) × (attempt (words ES) A C u ≡ next d)
+  made = attempt-made A ES C u (rw ready-len hr) (rw ready-len hs) (ok .meets)
 
-    after-is : markersAfter a es c u ≡ ds
-    unfolding markersAfter
-    after-is = ap (λ y. elim y [ none ↦ es | some g ↦ listAfter es (g .sort) R S ]) receiver-is
+  meet : (x : Meet (words ES) A C u) × (made .0 ≡ stepped (words ES) C u (x .p) (x .q))
+  meet = attempt-next (words ES) A C u (made .0) (made .1)
 
-    pub marker-is : markerMade a m u ≡ k
-    unfolding markerMade
-    marker-is = ap (λ y. elim y [ none ↦ 0 | some g ↦ markerOf (words es) (g .sort) R S ]) receiver-is
+  receiver-is : agentAt A (R .agent) ≡ some (agentIn A p)
+  receiver-is = ap (λ (x : Thread ℕ ℕ). agentAt A (x .agent)) R-is ∙ agent-is read reads-p agent-p
 
-    pub step-is : stepIn a m u ≡ fitted a m (advanced f t choices c r s k p q) ds
-    unfolding stepIn onAnswer
-    step-is =
-        ap₂ (λ (x : List Entry) (y : Answer ℕ ℕ). onAnswer a m x y) after-is (made .1 ∙ ap next (meet .1 ∙ ap₂ (stepped (words es) c u) p-is q-is ∙ stepped-is))
+  sender-is : agentAt A (S .agent) ≡ some (agentIn A q)
+  sender-is = ap (λ (x : Thread ℕ ℕ). agentAt A (x .agent)) S-is ∙ agent-is read reads-q agent-q
 
-    pub length-advanced : (n : ℕ) → length (advanced f t choices c r s n p q)
-        ≡ count - cond (leb 6 (p .kind)) 1 2 + (length (unfolded f t choices (p .left) 0 []) + length (unfolded f t choices (q .left) 0 []))
-    unfolding advanced
-    length-advanced n =
-        rw (length-append (keep (remains (leb 6 (p .kind)) r s) c) _, length-append (unfolded f t choices (p .left) n _) _)
-        (ap₂ _+_
-        (length-keep (p .kind) r s c receiver-kind (small-kind read (thread-reads r hr)) apart (rw len hr) (rw len hs) ∙ ap (λ (x : ℕ). x - cond (leb 6 (p .kind)) 1 2) len)
-        (ap₂ _+_ (length-unfolded f t choices (p .left) n 0 _ []) (length-unfolded f t choices (q .left) _ 0 _ [])))
+  is-p : meet .0 .p ≡ agentIn A p
+  unfolding words
+  is-p = some-inj (sym (meet .0 .receiver) ∙ receiver-is)
 
-    -- ---- what becomes of it
+  is-q : meet .0 .q ≡ agentIn A q
+  unfolding words
+  is-q = some-inj (sym (meet .0 .sender) ∙ sender-is)
 
-    -- the step under marker number n: its threads fit, and so do its entries
-    result : (n : ℕ) → n ≡ k → (l′ ml′ : List ℕ) (size j : ℕ) → l′ ≡ put 0 (wordsOf (advanced f t choices c r s n p q)) l → size ≡ length (advanced f t choices c r s n p q)
-        → size ≤ threadRoom (t .names) l → ml′ ≡ put 0 (numbersOf ds) ml → j ≡ length ds → j ≤ markerRoom ml → stepIn a m u ≡ leaves (memory l′ size ml′ j)
-    unfolding fitted store
-    result n e l′ ml′ size j el es room em ej most =
-        let d = advanced f t choices c r s n p q in
+  pub receiver-kind : 5 ≤ p .kind
+  receiver-kind =
+      let e : receives (sortOf (p .kind)) ≡ true = ap (λ (x : Agent). receives (x .sort)) (sym is-p) ∙ meet .0 .receives in
+      let n = eqb-false (p .kind) 4 (not-true _ (sym (receives-kind (p .kind)) ∙ e)) in
+      lt-of-le-of-ne agent-p (λ z. n (sym z))
+
+  pub sender-kind : q .kind ≡ 4
+  sender-kind =
+      let e : receives (sortOf (q .kind)) ≡ false = ap (λ (x : Agent). receives (x .sort)) (sym is-q) ∙ meet .0 .sends in
+      eqb-true (q .kind) 4 (not-false _ (sym (receives-kind (q .kind)) ∙ e))
+
+  pub pair : Pair f t l count r s p q
+  pair = record {
+    fits = ready-fit .1;
+    few = ready-fit .0;
+    receiver = hr;
+    sender = hs;
+    reads = reads-p;
+    other = reads-q;
+    receives = receiver-kind;
+    sends = sender-kind;
+    arities =
+        sym (arity-is read reads-p) ∙ ap (λ (x : Agent). length (x .args)) (sym is-p) ∙ meet .0 .arities
+        ∙ ap (λ (x : Agent). length (x .args)) is-q ∙ arity-is read reads-q;
+  }
+
+  pub apart : r ≢ s
+  apart e = let z : p .kind ≡ q .kind = ap (λ (x : Record). x .kind) (ok .p-is ∙ ap (λ (x : ℕ). recordOf f t (getD l (x * W) 0)) e ∙ sym (ok .q-is)) in absurd (omega (arith, receiver-kind, sender-kind))
+
+  -- the marker number of the receiver's continuation
+  abbrev k : ℕ
+  k = markerOf (words ES) (sortOf (p .kind)) R S
+
+  stepped-is : stepped (words ES) C u (agentIn A p) (agentIn A q) ≡ advanced f t choices C r s k p q
+  unfolding stepped advanced receiverLeaves senderLeaves words unfolded unfoldProc cutFrom
+  stepped-is =
+      ap (λ (x : Config ℕ ℕ). x ++ (receiverLeaves (words ES) (choicesOf choices) R S (agentIn A p) (agentIn A q) ++ senderLeaves (words ES) (choicesOf choices) S (agentIn A q)))
+      (keep-same (stays (sortOf (p .kind)) r s) (remains (leb 6 (p .kind)) r s) C (λ i. stays-kind (p .kind) r s i receiver-kind (small-kind read reads-p)))
+
+  -- the entries after the step
+  abbrev ds : List Entry
+  ds = listAfter ES (sortOf (p .kind)) R S
+
+  after-is : markersAfter A ES C u ≡ ds
+  unfolding markersAfter
+  after-is = ap (λ y. elim y [ none ↦ ES | some g ↦ listAfter ES (g .sort) R S ]) receiver-is
+
+  pub marker-is : markerMade A M u ≡ k
+  unfolding markerMade
+  marker-is = ap (λ y. elim y [ none ↦ 0 | some g ↦ markerOf (words ES) (g .sort) R S ]) receiver-is
+
+  pub step-is : stepIn A M u ≡ fitted A M (advanced f t choices C r s k p q) ds
+  unfolding stepIn onAnswer
+  step-is =
+      ap₂ (λ (x : List Entry) (y : Answer ℕ ℕ). onAnswer A M x y) after-is (made .1 ∙ ap next (meet .1 ∙ ap₂ (stepped (words ES) C u) is-p is-q ∙ stepped-is))
+
+  pub length-advanced : (n : ℕ) → length (advanced f t choices C r s n p q)
+      ≡ count - cond (leb 6 (p .kind)) 1 2 + (length (unfolded f t choices (p .left) 0 []) + length (unfolded f t choices (q .left) 0 []))
+  unfolding advanced
+  length-advanced n =
+      rw (length-append (keep (remains (leb 6 (p .kind)) r s) C) _, length-append (unfolded f t choices (p .left) n _) _)
+      (ap₂ _+_
+      (length-keep (p .kind) r s C receiver-kind (small-kind read reads-p) apart (rw ready-len hr) (rw ready-len hs) ∙ ap (λ (x : ℕ). x - cond (leb 6 (p .kind)) 1 2) ready-len)
+      (ap₂ _+_ (length-unfolded f t choices (p .left) n 0 _ []) (length-unfolded f t choices (q .left) _ 0 _ [])))
+
+  -- ---- what becomes of it
+
+  -- the step under marker number n: its threads ready-fit, and so do its entries
+  result : (n : ℕ) → n ≡ k → (l′ ml′ : List ℕ) (size j : ℕ) → l′ ≡ put 0 (wordsOf (advanced f t choices C r s n p q)) l → size ≡ length (advanced f t choices C r s n p q)
+      → size ≤ threadRoom (t .names) l → ml′ ≡ put 0 (numbersOf ds) ml → j ≡ length ds → j ≤ markerRoom ml → stepIn A M u ≡ leaves (memory l′ size ml′ j)
+  unfolding fitted store
+  result n e l′ ml′ size j el ES room em ej most =
+      let d = advanced f t choices C r s n p q in
+      step-is
+      ∙ ap (λ (x : ℕ). fitted A M (advanced f t choices C r s x p q) ds) (sym e)
+      ∙ rw (le-leb (length d) (threadRoom (t .names) l) (rw (← ES) room), le-leb (length ds) (markerRoom ml) (rw (← ej) most))
+      (λ i. leaves record { threads = sym el i; threadCount = sym ES i; markers = sym em i; markerCount = sym ej i })
+
+  -- too many threads
+  pub crowded : threadRoom (t .names) l < length (advanced f t choices C r s 0 p q) → stepIn A M u ≡ stops 28
+  unfolding fitted
+  crowded h =
+      let e : length (advanced f t choices C r s k p q) ≡ length (advanced f t choices C r s 0 p q) = length-advanced k ∙ sym (length-advanced 0) in
+      step-is ∙ rw (lt-leb (length (advanced f t choices C r s k p q)) (threadRoom (t .names) l) (rw e h))
+
+  -- markers as they are
+  pub kept-entries : put 0 (numbersOf ES) ml ≡ ml
+  kept-entries =
+      let b : 4 * listed ≤ length ml = marker-room listed ml (ready-sound .markersFit) .1 in
+      ap (λ (x : List ℕ). put 0 x ml) (numbers-entries listed ml b) ∙ put-same 0 (4 * listed) ml (omega arith)
+
+  entries-count : length ES ≡ listed
+  entries-count = length-entries listed ml
+
+  -- an in's continuation keeps its marker
+  module _ (in-kind : p .kind ≡ 5) where
+    in-marker : getD l (r * W + 1) 0 ≡ k
+    unfolding markerOf
+    in-marker = rw in-kind (ap (λ (x : Thread ℕ ℕ). x .marker) (sym R-is))
+
+    in-entries : ds ≡ ES
+    unfolding listAfter
+    in-entries = rw in-kind
+
+    pub in-made : (l′ : List ℕ) (size : ℕ) → l′ ≡ put 0 (wordsOf (advanced f t choices C r s (getD l (r * W + 1) 0) p q)) l
+        → size ≡ length (advanced f t choices C r s (getD l (r * W + 1) 0) p q) → size ≤ threadRoom (t .names) l
+        → stepIn A M u ≡ leaves (memory l′ size ml listed)
+    in-made l′ size el ES room =
+        result (getD l (r * W + 1) 0) in-marker l′ ml size listed el ES room (rw in-entries (sym kept-entries)) (rw in-entries (sym entries-count)) (ready-sound .markersFit)
+
+    pub in-told : getD l (r * W + 1) 0 ≡ markerMade A M u
+    in-told = in-marker ∙ sym marker-is
+
+  -- A resource's runs under A marker of its own
+  module _ (own-kind : 6 ≤ p .kind) where
+    abbrev pub entry : Entry
+    entry = record { resource = getD l (r * W) 0; out = getD l (s * W) 0; left = getD l (r * W + 1) 0; right = getD l (s * W + 1) 0 }
+
+    six : sortOf (p .kind) ≡ resource
+    six = rw (ne-eqb (p .kind) 4 (λ e. absurd (omega arith)), ne-eqb (p .kind) 5 (λ e. absurd (omega arith)))
+
+    made-entry : record { resource = R .agent; out = S .agent; left = R .marker; right = S .marker } ≡ entry
+    made-entry =
+        ap₂ (λ (x y : Thread ℕ ℕ). record { resource = x .agent; out = y .agent; left = x .marker; right = y .marker }) R-is S-is
+
+    own-marker : k ≡ suc (position entry ES)
+    unfolding markerOf words
+    own-marker = ap (λ (x : Sort). markerOf (words ES) x R S) six ∙ ap (λ (x : Entry). suc (position x ES)) made-entry
+
+    own-entries : ds ≡ extend ES entry
+    unfolding listAfter
+    own-entries = ap (λ (x : Sort). listAfter ES x R S) six ∙ ap (extend ES) made-entry
+
+    module _ (l′ : List ℕ) (size : ℕ) (room : size ≤ threadRoom (t .names) l) where
+      -- listed already
+      pub found-made : position entry ES < listed → l′ ≡ put 0 (wordsOf (advanced f t choices C r s (position entry ES + 1) p q)) l
+          → size ≡ length (advanced f t choices C r s (position entry ES + 1) p q) → stepIn A M u ≡ leaves (memory l′ size ml listed)
+      unfolding extend
+      found-made h el es′ =
+          let e : ds ≡ ES = own-entries ∙ rw (lt-ltb (position entry ES) (length ES) (rw entries-count h)) in
+          result (position entry ES + 1) (rw own-marker (add-one (position entry ES))) l′ ml size listed el es′ room (rw e (sym kept-entries)) (rw e (sym entries-count)) (ready-sound .markersFit)
+
+      -- appended
+      pub added-made : listed ≤ position entry ES → listed < markerRoom ml → (ml′ : List ℕ) → ml′ ≡ put (4 * listed) (entryNumbers entry) ml
+          → l′ ≡ put 0 (wordsOf (advanced f t choices C r s (listed + 1) p q)) l → size ≡ length (advanced f t choices C r s (listed + 1) p q)
+          → stepIn A M u ≡ leaves (memory l′ size ml′ (listed + 1))
+      unfolding extend
+      added-made h most ml′ em el es′ =
+          let here : position entry ES ≡ listed = let b = position-le entry ES in let n = entries-count in omega arith in
+          let e : ds ≡ ES ++ (entry ∷ []) = own-entries ∙ rw (le-ltb (position entry ES) (length ES) (rw entries-count h)) in
+          let b : 4 * listed ≤ length ml = marker-room listed ml (ready-sound .markersFit) .1 in
+          let b′ : 4 * listed + 4 ≤ length ml = let z = marker-room (listed + 1) ml (omega arith) .1 in omega arith in
+          result (listed + 1) (rw (own-marker, here) (add-one listed)) l′ ml′ size (listed + 1) el es′ room
+          (em ∙ put-from (4 * listed) (entryNumbers entry) ml b′
+          ∙ ap (λ (x : List ℕ). put 0 x ml) (ap (λ (x : List ℕ). x ++ entryNumbers entry) (sym (numbers-entries listed ml b)) ∙ sym (one-more ES entry) ∙ ap numbersOf (sym e)))
+          (rw (e, length-append ES (entry ∷ []), entries-count)) (omega arith)
+
+    -- no room for it
+    pub unlisted : listed ≤ position entry ES → markerRoom ml ≤ listed → length (advanced f t choices C r s 0 p q) ≤ threadRoom (t .names) l → stepIn A M u ≡ stops 29
+    unfolding fitted extend
+    unlisted h most room =
+        let e : length (advanced f t choices C r s k p q) ≡ length (advanced f t choices C r s 0 p q) = length-advanced k ∙ sym (length-advanced 0) in
+        let z : ds ≡ ES ++ (entry ∷ []) = own-entries ∙ rw (le-ltb (position entry ES) (length ES) (rw entries-count h)) in
+        let n : length ds ≡ listed + 1 = rw (z, length-append ES (entry ∷ []), entries-count) in
         step-is
-        ∙ ap (λ (x : ℕ). fitted a m (advanced f t choices c r s x p q) ds) (sym e)
-        ∙ rw (le-leb (length d) (threadRoom (t .names) l) (rw (← es) room), le-leb (length ds) (markerRoom ml) (rw (← ej) most))
-        (λ i. leaves record { threads = sym el i; threadCount = sym es i; markers = sym em i; markerCount = sym ej i })
+        ∙ rw (le-leb (length (advanced f t choices C r s k p q)) (threadRoom (t .names) l) (rw e room), lt-leb (length ds) (markerRoom ml) (omega arith))
 
-    -- too many threads
-    pub crowded : threadRoom (t .names) l < length (advanced f t choices c r s 0 p q) → stepIn a m u ≡ stops 28
-    unfolding fitted
-    crowded h =
-        let e : length (advanced f t choices c r s k p q) ≡ length (advanced f t choices c r s 0 p q) = length-advanced k ∙ sym (length-advanced 0) in
-        step-is ∙ rw (lt-leb (length (advanced f t choices c r s k p q)) (threadRoom (t .names) l) (rw e h))
+    pub found-told : position entry ES + 1 ≡ markerMade A M u
+    found-told = rw (marker-is, own-marker) (add-one (position entry ES))
 
-    -- markers as they are
-    pub kept-entries : put 0 (numbersOf es) ml ≡ ml
-    kept-entries =
-        let b : 4 * listed ≤ length ml = marker-room listed ml (sound .markersFit) .1 in
-        ap (λ (x : List ℕ). put 0 x ml) (numbers-entries listed ml b) ∙ put-same 0 (4 * listed) ml (omega arith)
-
-    entries-count : length es ≡ listed
-    entries-count = length-entries listed ml
-
-    -- an in's continuation keeps its marker
-    module _ (in-kind : p .kind ≡ 5) where
-      in-marker : getD l (r * w + 1) 0 ≡ k
-      unfolding markerOf
-      in-marker = rw in-kind (ap (λ (x : Thread ℕ ℕ). x .marker) (sym R-is))
-
-      in-entries : ds ≡ es
-      unfolding listAfter
-      in-entries = rw in-kind
-
-      pub in-made : (l′ : List ℕ) (size : ℕ) → l′ ≡ put 0 (wordsOf (advanced f t choices c r s (getD l (r * w + 1) 0) p q)) l
-          → size ≡ length (advanced f t choices c r s (getD l (r * w + 1) 0) p q) → size ≤ threadRoom (t .names) l
-          → stepIn a m u ≡ leaves (memory l′ size ml listed)
-      in-made l′ size el es room =
-          result (getD l (r * w + 1) 0) in-marker l′ ml size listed el es room (rw in-entries (sym kept-entries)) (rw in-entries (sym entries-count)) (sound .markersFit)
-
-      pub in-told : getD l (r * w + 1) 0 ≡ markerMade a m u
-      in-told = in-marker ∙ sym marker-is
-
-    -- a resource's runs under a marker of its own
-    module _ (own-kind : 6 ≤ p .kind) where
-      abbrev pub entry : Entry
-      entry = record { resource = getD l (r * w) 0; out = getD l (s * w) 0; left = getD l (r * w + 1) 0; right = getD l (s * w + 1) 0 }
-
-      six : sortOf (p .kind) ≡ resource
-      six = rw (ne-eqb (p .kind) 4 (λ e. absurd (omega arith)), ne-eqb (p .kind) 5 (λ e. absurd (omega arith)))
-
-      made-entry : record { resource = R .agent; out = S .agent; left = R .marker; right = S .marker } ≡ entry
-      made-entry =
-          ap₂ (λ (x y : Thread ℕ ℕ). record { resource = x .agent; out = y .agent; left = x .marker; right = y .marker }) R-is S-is
-
-      own-marker : k ≡ suc (position entry es)
-      unfolding markerOf words
-      own-marker = ap (λ (x : Sort). markerOf (words es) x R S) six ∙ ap (λ (x : Entry). suc (position x es)) made-entry
-
-      own-entries : ds ≡ extend es entry
-      unfolding listAfter
-      own-entries = ap (λ (x : Sort). listAfter es x R S) six ∙ ap (extend es) made-entry
-
-      module _ (l′ : List ℕ) (size : ℕ) (room : size ≤ threadRoom (t .names) l) where
-        -- listed already
-        pub found-made : position entry es < listed → l′ ≡ put 0 (wordsOf (advanced f t choices c r s (position entry es + 1) p q)) l
-            → size ≡ length (advanced f t choices c r s (position entry es + 1) p q) → stepIn a m u ≡ leaves (memory l′ size ml listed)
-        unfolding extend
-        found-made h el es′ =
-            let e : ds ≡ es = own-entries ∙ rw (lt-ltb (position entry es) (length es) (rw entries-count h)) in
-            result (position entry es + 1) (rw own-marker (add-one (position entry es))) l′ ml size listed el es′ room (rw e (sym kept-entries)) (rw e (sym entries-count)) (sound .markersFit)
-
-        -- appended
-        pub added-made : listed ≤ position entry es → listed < markerRoom ml → (ml′ : List ℕ) → ml′ ≡ put (4 * listed) (entryNumbers entry) ml
-            → l′ ≡ put 0 (wordsOf (advanced f t choices c r s (listed + 1) p q)) l → size ≡ length (advanced f t choices c r s (listed + 1) p q)
-            → stepIn a m u ≡ leaves (memory l′ size ml′ (listed + 1))
-        unfolding extend
-        added-made h most ml′ em el es′ =
-            let here : position entry es ≡ listed = let b = position-le entry es in let n = entries-count in omega arith in
-            let e : ds ≡ es ++ (entry ∷ []) = own-entries ∙ rw (le-ltb (position entry es) (length es) (rw entries-count h)) in
-            let b : 4 * listed ≤ length ml = marker-room listed ml (sound .markersFit) .1 in
-            let b′ : 4 * listed + 4 ≤ length ml = let z = marker-room (listed + 1) ml (omega arith) .1 in omega arith in
-            result (listed + 1) (rw (own-marker, here) (add-one listed)) l′ ml′ size (listed + 1) el es′ room
-            (em ∙ put-from (4 * listed) (entryNumbers entry) ml b′
-            ∙ ap (λ (x : List ℕ). put 0 x ml) (ap (λ (x : List ℕ). x ++ entryNumbers entry) (sym (numbers-entries listed ml b)) ∙ sym (one-more es entry) ∙ ap numbersOf (sym e)))
-            (rw (e, length-append es (entry ∷ []), entries-count)) (omega arith)
-
-      -- no room for it
-      pub unlisted : listed ≤ position entry es → markerRoom ml ≤ listed → length (advanced f t choices c r s 0 p q) ≤ threadRoom (t .names) l → stepIn a m u ≡ stops 29
-      unfolding fitted extend
-      unlisted h most room =
-          let e : length (advanced f t choices c r s k p q) ≡ length (advanced f t choices c r s 0 p q) = length-advanced k ∙ sym (length-advanced 0) in
-          let z : ds ≡ es ++ (entry ∷ []) = own-entries ∙ rw (le-ltb (position entry es) (length es) (rw entries-count h)) in
-          let n : length ds ≡ listed + 1 = rw (z, length-append es (entry ∷ []), entries-count) in
-          step-is
-          ∙ rw (le-leb (length (advanced f t choices c r s k p q)) (threadRoom (t .names) l) (rw e room), lt-leb (length ds) (markerRoom ml) (omega arith))
-
-      pub found-told : position entry es + 1 ≡ markerMade a m u
-      found-told = rw (marker-is, own-marker) (add-one (position entry es))
-
-      pub added-told : listed ≤ position entry es → listed + 1 ≡ markerMade a m u
-      added-told h =
-          let here : position entry es ≡ listed = let b = position-le entry es in let n = entries-count in omega arith in
-          ap (λ (x : ℕ). x + 1) (sym here) ∙ found-told
+    pub added-told : listed ≤ position entry ES → listed + 1 ≡ markerMade A M u
+    added-told h =
+        let here : position entry ES ≡ listed = let b = position-le entry ES in let n = entries-count in omega arith in
+        ap (λ (x : ℕ). x + 1) (sym here) ∙ found-told

@@ -1,4 +1,4 @@
--- `flows::opened` meets its contract. The loop's invariant: the row has the names that the nodes passed open (`Opened`).
+-- `frees::opened` meets its contract. The loop's invariant: the row has the names that the nodes passed open (`Opened`).
 -- A record's name is a byte of the file, so it is below 256.
 use Prim.Native.Nat.{_+_, _*_, _<_, _≤_, _-_}
 use native.Mathlib.Omega.{arith}
@@ -10,9 +10,9 @@ use Rattle.laws.proofs.Search.{any-zero}
 use Rattle.marks.proofs.Laws.{marked-none}
 use Rattle.model.specs.Tree.{isNew}
 use Rattle.records.specs.Record.{arrayOf}
-use Rattle.flows.proofs.Laws.{Opened, opened-more}
-use Rattle.flows.proofs.opened.Statement.{statement}
-use Rattle.flows.proofs.opened.Tie as tie
+use Rattle.frees.proofs.Laws.{Opened, opened-more}
+use Rattle.frees.proofs.opened.Statement.{statement}
+use Rattle.frees.proofs.opened.Tie as tie
 
 abbrev Inv-loop : tie.InvT-loop
 Inv-loop file t row₀ i₀ row i = (i ≤ t .nodes) × (length row ≡ 4) × Opened (arrayOf file t) row i

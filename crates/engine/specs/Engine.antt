@@ -1,0 +1,84 @@
+-- Start, step and walk on the lists of an array that was read: refusal 23 first, then the model's; and one turn of the walk.
+use Prim.Native.Nat.{ℕ, suc, _+_, _*_, _≤_}
+use mathlib.Core.Path.{_≡_}
+use mathlib.Core.Bool.{Bool, true, false, cond}
+use mathlib.Core.List.{List, []}
+use lib.Dec.{eqb}
+use lib.ListN.{length, getD}
+use Rattle.laws.specs.Search.{Found, clear, hit}
+use Rattle.model.specs.Tree.{Array}
+use Rattle.model.specs.Calculus.{Choices, Attempt, choicesOf}
+use Rattle.model.specs.Numbers.{nobody}
+use Rattle.model.specs.Memory as M
+use Rattle.model.specs.Memory.{Memory, configOf, entriesOf, words, formed, Result, stops, leaves, startIn, stepIn, firstReady, try, walkIn}
+use Rattle.records.specs.declared.Trailer.{Trailer}
+use Rattle.records.specs.Record.{arrayOf}
+use Rattle.steps.specs.Steps.{memory, markerMade}
+use Rattle.engine.specs.declared.Ending.{Ending}
+use Rattle.engine.specs.declared.Ending.the-variants.{Quiet, Spent, Full}
+use Rattle.engine.specs.declared.Turn.{Turn}
+use Rattle.engine.specs.declared.Stride.{Stride}
+use Rattle.engine.specs.declared.Stride.the-variants.{Refused, Ended, Made}
+use Rattle.engine.specs.declared.Walk.{Walk}
+use Rattle.engine.specs.declared.Walked.{Walked}
+use Rattle.engine.specs.declared.Walked.the-variants as W
+
+-- ---- step
+
+-- 23, else 24 to 29, or the step
+unfoldable pub checkedStep : Array → Memory → Attempt → Result
+checkedStep a m u = cond (formed a m) (stepIn a m u) (stops 23)
+
+-- ---- one turn of the walk
+
+-- each case of the ending
+abbrev pub endingOf : Ending → M.Ending
+endingOf Quiet = M.quiet
+endingOf Spent = M.spent
+endingOf Full = M.full
+
+-- an ending, or a step: the attempt and the lists after it
+pub data Strode : Type 0 where
+  ended : M.Ending → Strode
+  moved : Attempt → Memory → Strode
+
+unfoldable pub onResult : Attempt → Result → Strode
+onResult u (stops n) = ended M.full
+onResult u (leaves n) = moved u n
+
+unfoldable pub onFound : Array → Bool → Memory → Found Attempt → Strode
+onFound a done m clear = ended M.quiet
+onFound a done m (hit u) = cond done (ended M.spent) (onResult u (stepIn a m u))
+
+-- "Before each step: no ready pair, quiet; else the steps made equal the allowed number, spent; else a step refused by 28 or 29, full."
+unfoldable pub strideIn : Array → Choices → Bool → Memory → Strode
+strideIn a ch done m = onFound a done m (firstReady (words (entriesOf m)) a ch (configOf a m))
+
+-- what a turn tells: the two agents, the marker number of the receiver's continuation, and the counts
+pub record TurnOf (a : Array) (m : Memory) (u : Attempt) (n : Memory) (x : Turn) : Type 0 where
+  pub receiver : x .receiver ≡ getD (configOf a m) (u .receiver) nobody .agent
+  pub sender : x .sender ≡ getD (configOf a m) (u .sender) nobody .agent
+  pub marker : x .marker ≡ markerMade a m u
+  pub threads : x .threads ≡ n .threadCount
+  pub markers : x .markers ≡ n .markerCount
+
+-- a stride's answer and both lists at exit
+abbrev pub Strides : Array → Memory → Strode → Stride → List ℕ → List ℕ → Type 0
+Strides a m x (Refused n) l ml = ⊥
+Strides a m x (Ended e) l ml = (x ≡ ended (endingOf e)) × (l ≡ m .threads) × (ml ≡ m .markers)
+Strides a m x (Made y) l ml = (u : Attempt) × (x ≡ moved u (memory l (y .threads) ml (y .markers))) × TurnOf a m u (memory l (y .threads) ml (y .markers)) y
+
+-- ---- the walk
+
+-- the same walk with n steps more, made first
+abbrev pub added : ℕ → M.Walked → M.Walked
+added n w = record { ending = w .ending; steps = n + w .steps; left = w .left }
+
+-- a walk's answer and both lists at exit
+abbrev pub walkedOf : Walk → List ℕ → List ℕ → M.Walked
+walkedOf w l ml = record { ending = endingOf (w .ending); steps = w .steps; left = memory l (w .threads) ml (w .markers) }
+
+-- 23, or the walk
+abbrev pub Walks : Array → Choices → ℕ → Memory → Walked → List ℕ → List ℕ → Type 0
+Walks a ch allowed m (W.Refused n) l ml = (n ≡ 23) × (formed a m ≡ false) × (l ≡ m .threads) × (ml ≡ m .markers)
+Walks a ch allowed m (W.Walked w) l ml = (formed a m ≡ true) × (walkedOf w l ml ≡ walkIn a ch allowed m)
