@@ -1,6 +1,6 @@
 -- A ready pair of well-formed lists: its records, and its step as a result on the lists.
-use Prim.Native.Nat.{ℕ, zero, suc, _+_, _*_, _-_, _≤_, _<_, min}
-use native.Mathlib.Nat.{le-trans}
+use Prim.Native.Nat.{ℕ, zero, suc, _+_, _*_, _-_, _/_, _≤_, _<_, min}
+use native.Mathlib.Nat.{le-trans, add-mul}
 use native.Mathlib.Numerals.{lt-of-le-of-ne, add-one}
 use native.Mathlib.Omega.{arith}
 use mathlib.Core.Path.{_≡_, refl, sym, ap, ap₂, _∙_, subst}
@@ -20,10 +20,10 @@ use Rattle.model.specs.Calculus.{Choices, Thread, Config, Attempt, Answer, next
 use Rattle.model.specs.Numbers.{Entry, position, extend, listAfter, nobody, markersAfter}
 use Rattle.model.specs.Memory.{Memory, words, threadsIn, wordsOf, numbersOf, entryNumbers, configOf, entriesOf, threadRoom, markerRoom, formed, Result, stops, leaves, store, fitted, onAnswer, stepIn, try}
 use Rattle.model.specs.Safe.{total}
-use Rattle.model.proofs.Threads.{keep-one, keep-two}
+use Rattle.model.proofs.Threads.{keep-one, keep-two, keep-all, length-bind}
 use Rattle.model.proofs.Stepped.{Meet, attempt-next}
 use Rattle.model.proofs.Markers.{position-le}
-use Rattle.model.proofs.Memory.{length-threads, length-entries, thread-room, marker-room, thread-at, numbers-append, numbers-entries}
+use Rattle.model.proofs.Memory.{Wide, length-threads, length-entries, length-words, words-append, threads-wide, thread-room, marker-room, thread-at, numbers-append, numbers-entries}
 use Rattle.model.proofs.Lent.{Ok, Sound, formed-sound}
 use Rattle.model.proofs.Engine.{few, oks}
 use Rattle.records.specs.declared.Record.{Record}
@@ -31,13 +31,14 @@ use Rattle.records.specs.declared.Trailer.{Trailer}
 use Rattle.records.specs.Record.{recordOf, argsOf, arrayOf}
 use Rattle.arrays.specs.File.{IsRead}
 use Rattle.arrays.specs.Agents.{sortOf, agentIn, Reads}
-use Rattle.arrays.proofs.Agents.{receives-kind, agent-is, no-agent, small-kind, arity-is}
+use Rattle.arrays.proofs.Agents.{receives-kind, agent-is, no-agent, small-kind, arity-is, left-below}
 use Rattle.unfolds.specs.Unfold.{unfolded}
-use Rattle.unfolds.proofs.Laws.{length-unfolded}
+use Rattle.unfolds.proofs.Laws.{length-unfolded, words-unfolded}
 use Rattle.threads.specs.Threads.{remains}
 use Rattle.threads.proofs.Moves.{put-same}
 use Rattle.ready.specs.Ready.{meeting}
 use Rattle.ready.proofs.Attempts.{attempt-made}
+use Rattle.steps.proofs.Advanced.{place}
 use Rattle.steps.specs.Steps.{memory, Pair, ReadyPair, advanced, markerMade}
 
 some-inj : {g h : Agent} → some g ≡ some h → g ≡ h
@@ -185,7 +186,7 @@ module _ {f : List ℕ} {t : Trailer} {l : List ℕ} {count : ℕ} {ml : List �
   pub ready-sound : Sound A M
   ready-sound = sound f t read l count ml listed (ok .formed)
 
-  ready-fit : (count ≤ 256) × (count * W ≤ length l)
+  pub ready-fit : (count ≤ 256) × (count * W ≤ length l)
   ready-fit = fit f t read l count ml listed (ok .formed)
 
   ready-len : length C ≡ count
@@ -412,3 +413,92 @@ module _ {f : List ℕ} {t : Trailer} {l : List ℕ} {count : ℕ} {ml : List �
     added-told h =
         let here : position entry ES ≡ listed = let b = position-le entry ES in let n = entries-count in omega arith in
         ap (λ (x : ℕ). x + 1) (sym here) ∙ found-told
+
+  -- ---- sizes
+
+  pub few-names : t .names ≤ 256
+  few-names = read .formed .fewNames
+
+  pub few-listed : (listed ≤ 4096) × (4 * listed ≤ length ml)
+  few-listed = marker-room listed ml (ready-sound .markersFit)
+
+  pub place-r : (r * W + W ≤ length l) × (r * W + W ≤ 66048)
+  place-r = place (t .names) r count l hr (ready-fit .0) few-names (ready-fit .1)
+
+  pub place-s : (s * W + W ≤ length l) × (s * W + W ≤ 66048)
+  place-s = place (t .names) s count l hs (ready-fit .0) few-names (ready-fit .1)
+
+  pub small-r : (getD l (r * W) 0 < 65536) × (getD l (r * W + 1) 0 < 65536)
+  small-r =
+      let b = reads-p .below in
+      let n = read .formed .fewNodes in
+      let m = thread-marker f t read l count ml listed (ok .formed) r hr in
+      let e = entries-count in
+      let h = few-listed .0 in
+      (omega arith, omega arith)
+
+  pub small-s : (getD l (s * W) 0 < 65536) × (getD l (s * W + 1) 0 < 65536)
+  small-s =
+      let b = reads-q .below in
+      let n = read .formed .fewNodes in
+      let m = thread-marker f t read l count ml listed (ok .formed) s hs in
+      let e = entries-count in
+      let h = few-listed .0 in
+      (omega arith, omega arith)
+
+  pub two-threads : 2 ≤ count
+  two-threads = let n = apart in let a = hr in let b = hs in omega arith
+
+  pub lefts : (p .left < t .nodes) × (q .left < t .nodes)
+  lefts = (left-below read reads-p agent-p, left-below read reads-q agent-q)
+
+  wide : Wide (t .names) C
+  wide = threads-wide (t .names) count l (ready-fit .1)
+
+  -- the words of the threads after the step
+  pub advanced-words : (n : ℕ) → length (wordsOf (advanced f t choices C r s n p q)) ≡ length (advanced f t choices C r s n p q) * W
+  unfolding advanced
+  advanced-words n =
+      let K = keep (remains (leb 6 (p .kind)) r s) C in
+      let near = bind (argsOf p) (map (λ z. getD (S .env) z 0) (argsOf q)) (R .env) in
+      let X = unfolded f t choices (p .left) n near in
+      let Y = unfolded f t choices (q .left) (S .marker) (S .env) in
+      let wr : length (R .env) ≡ t .names = All-getD (λ y. length (y .env) ≡ t .names) C r nobody wide (rw ready-len hr) in
+      let ws : length (S .env) ≡ t .names = All-getD (λ y. length (y .env) ≡ t .names) C s nobody wide (rw ready-len hs) in
+      let eX : length (wordsOf X) ≡ length X * W =
+      words-unfolded f t choices (p .left) n near ∙ ap (λ (y : ℕ). length X * (2 + y)) (length-bind (argsOf p) (map (λ z. getD (S .env) z 0) (argsOf q)) (R .env) ∙ wr) in
+      let eY : length (wordsOf Y) ≡ length Y * W = words-unfolded f t choices (q .left) (S .marker) (S .env) ∙ ap (λ (y : ℕ). length Y * (2 + y)) ws in
+      let eK : length (wordsOf K) ≡ length K * W = length-words (t .names) K (keep-all (λ y. length (y .env) ≡ t .names) (remains (leb 6 (p .kind)) r s) C wide) in
+      ap length (words-append K (X ++ Y) ∙ ap (λ (y : List ℕ). wordsOf K ++ y) (words-append X Y))
+      ∙ length-append (wordsOf K) (wordsOf X ++ wordsOf Y)
+      ∙ ap₂ _+_ eK (length-append (wordsOf X) (wordsOf Y) ∙ ap₂ _+_ eX eY ∙ sym (add-mul (length X) (length Y) W))
+      ∙ sym (add-mul (length K) (length X + length Y) W)
+      ∙ ap (λ (y : ℕ). y * W) (ap (λ (y : ℕ). length K + y) (sym (length-append X Y)) ∙ sym (length-append K (X ++ Y)))
+
+  -- where the threads fit, so do their words
+  pub words-fit : (n : ℕ) → length (advanced f t choices C r s 0 p q) ≤ threadRoom (t .names) l → length (wordsOf (advanced f t choices C r s n p q)) ≤ length l
+  words-fit n h =
+      let e : length (advanced f t choices C r s n p q) ≡ length (advanced f t choices C r s 0 p q) = length-advanced n ∙ sym (length-advanced 0) in
+      rw (advanced-words n, e) (thread-room (t .names) (length (advanced f t choices C r s 0 p q)) l h .1)
+
+  pub same-size : (n : ℕ) → length (advanced f t choices C r s 0 p q) ≡ length (advanced f t choices C r s n p q)
+  same-size n = length-advanced 0 ∙ sym (length-advanced n)
+
+  -- ---- the count that the code makes, where 257 stands for more
+
+  abbrev counted : ℕ
+  counted =
+      count - cond (leb 6 (p .kind)) 1 2
+      + (min 257 (length (unfolded f t choices (p .left) 0 [])) + min 257 (length (unfolded f t choices (q .left) 0 [])))
+
+  pub count-exact : counted ≤ 256 → counted ≡ length (advanced f t choices C r s 0 p q)
+  count-exact h = let e = length-advanced 0 in omega arith
+
+  pub count-over : (256 < counted) ⊎ (length l / W < counted) → threadRoom (t .names) l < length (advanced f t choices C r s 0 p q)
+  count-over h = go h (decided (ltb 256 counted))
+    where
+      go : (256 < counted) ⊎ (length l / W < counted) → (ltb 256 counted ≡ true) ⊎ (ltb 256 counted ≡ false)
+          → threadRoom (t .names) l < length (advanced f t choices C r s 0 p q)
+      go h (inl b) = let k = ltb-true 256 counted b in let e = length-advanced 0 in omega arith
+      go (inl k) (inr b) = let z = ltb-false 256 counted b in absurd (omega arith)
+      go (inr k) (inr b) = let e = count-exact (ltb-false 256 counted b) in omega arith
