@@ -18,7 +18,9 @@ use Rattle.engine.specs.declared.Ending.{Ending}
 use Rattle.engine.specs.declared.Ending.the-variants.{Quiet, Spent, Full}
 use Rattle.engine.specs.declared.Turn.{Turn}
 use Rattle.engine.specs.declared.Stride.{Stride}
-use Rattle.engine.specs.declared.Stride.the-variants.{Refused, Ended, Made}
+use Rattle.engine.specs.declared.Stride.the-variants.{Ended, Made}
+use Rattle.engine.specs.declared.Strode.{Strode}
+use Rattle.engine.specs.declared.Strode.the-variants as S
 use Rattle.engine.specs.declared.Walk.{Walk}
 use Rattle.engine.specs.declared.Walked.{Walked}
 use Rattle.engine.specs.declared.Walked.the-variants as W
@@ -38,20 +40,24 @@ endingOf Spent = M.spent
 endingOf Full = M.full
 
 -- an ending, or a step: the attempt and the lists after it
-pub data Strode : Type 0 where
-  ended : M.Ending → Strode
-  moved : Attempt → Memory → Strode
+pub data Next : Type 0 where
+  ended : M.Ending → Next
+  moved : Attempt → Memory → Next
 
-unfoldable pub onResult : Attempt → Result → Strode
+unfoldable pub onResult : Attempt → Result → Next
 onResult u (stops n) = ended M.full
 onResult u (leaves n) = moved u n
 
-unfoldable pub onFound : Array → Bool → Memory → Found Attempt → Strode
+-- the step of a ready pair
+unfoldable pub turnIn : Array → Memory → Attempt → Next
+turnIn a m u = onResult u (stepIn a m u)
+
+unfoldable pub onFound : Array → Bool → Memory → Found Attempt → Next
 onFound a done m clear = ended M.quiet
-onFound a done m (hit u) = cond done (ended M.spent) (onResult u (stepIn a m u))
+onFound a done m (hit u) = cond done (ended M.spent) (turnIn a m u)
 
 -- "Before each step: no ready pair, quiet; else the steps made equal the allowed number, spent; else a step refused by 28 or 29, full."
-unfoldable pub strideIn : Array → Choices → Bool → Memory → Strode
+unfoldable pub strideIn : Array → Choices → Bool → Memory → Next
 strideIn a ch done m = onFound a done m (firstReady (words (entriesOf m)) a ch (configOf a m))
 
 -- what a turn tells: the two agents, the marker number of the receiver's continuation, and the counts
@@ -63,8 +69,7 @@ pub record TurnOf (a : Array) (m : Memory) (u : Attempt) (n : Memory) (x : Turn)
   pub markers : x .markers ≡ n .markerCount
 
 -- a stride's answer and both lists at exit
-abbrev pub Strides : Array → Memory → Strode → Stride → List ℕ → List ℕ → Type 0
-Strides a m x (Refused n) l ml = ⊥
+abbrev pub Strides : Array → Memory → Next → Stride → List ℕ → List ℕ → Type 0
 Strides a m x (Ended e) l ml = (x ≡ ended (endingOf e)) × (l ≡ m .threads) × (ml ≡ m .markers)
 Strides a m x (Made y) l ml = (u : Attempt) × (x ≡ moved u (memory l (y .threads) ml (y .markers))) × TurnOf a m u (memory l (y .threads) ml (y .markers)) y
 
@@ -82,3 +87,8 @@ walkedOf w l ml = record { ending = endingOf (w .ending); steps = w .steps; left
 abbrev pub Walks : Array → Choices → ℕ → Memory → Walked → List ℕ → List ℕ → Type 0
 Walks a ch allowed m (W.Refused n) l ml = (n ≡ 23) × (formed a m ≡ false) × (l ≡ m .threads) × (ml ≡ m .markers)
 Walks a ch allowed m (W.Walked w) l ml = (formed a m ≡ true) × (walkedOf w l ml ≡ walkIn a ch allowed m)
+
+-- 23, or one turn of a walk that has steps left
+abbrev pub Turns : Array → Choices → Memory → Strode → List ℕ → List ℕ → Type 0
+Turns a ch m (S.Refused n) l ml = (n ≡ 23) × (formed a m ≡ false) × (l ≡ m .threads) × (ml ≡ m .markers)
+Turns a ch m (S.Strode e) l ml = (formed a m ≡ true) × Strides a m (strideIn a ch false m) e l ml

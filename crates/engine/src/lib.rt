@@ -7,12 +7,14 @@ ghost use mathlib.Core.List.{[]};
 ghost use Prim.Native.Nat.{ℕ, _+_, _*_, _<_, _≤_};
 ghost use lib.ListN.{length, getD};
 ghost use Rattle.model.specs.Calculus.{choicesOf};
-ghost use Rattle.model.specs.Memory.{formed, startIn, stepIn, try};
+ghost use Rattle.model.specs.Numbers.{nobody};
+ghost use Rattle.model.specs.Memory.{threadsIn, formed, startIn, stepIn, walkIn, try};
 ghost use Rattle.records.specs.Record.{arrayOf};
 ghost use Rattle.arrays.specs.File.{IsRead};
 ghost use Rattle.frees.specs.Frees.{AllFree};
 ghost use Rattle.steps.specs.Steps.{memory, Leaves};
-ghost use Rattle.engine.specs.Engine.{checkedStep, strideIn, Strides, Walks};
+ghost use Rattle.ready.specs.Ready.{meeting};
+ghost use Rattle.engine.specs.Engine.{checkedStep, turnIn, strideIn, Strides, walkedOf, Walks, Turns};
 use ready::Ready;
 use records::Trailer;
 use steps::Fired;
@@ -35,9 +37,14 @@ pub struct Turn {
 
 // The walk's next step, or why there is none.
 pub enum Stride {
-    Refused(u8),
     Ended(Ending),
     Made(Turn),
+}
+
+// The same, or refusal 23.
+pub enum Strode {
+    Refused(u8),
+    Strode(Stride),
 }
 
 // How a walk ended, the steps it made, and the counts it left.
@@ -48,6 +55,7 @@ pub struct Walk {
     pub markers: usize,
 }
 
+// The same, or refusal 23.
 pub enum Walked {
     Refused(u8),
     Walked(Walk),
@@ -64,7 +72,9 @@ impl Allowance {
         requires { ⌜ 0 < self .left ⌝ }
         ensures { λ r. ⌜ r .left + 1 ≡ self .left ⌝ }
     {
-        Allowance { left: self.left - 1 }
+        Allowance {
+            left: self.left - 1,
+        }
     }
 }
 
@@ -111,7 +121,18 @@ fn step_formed(
     if n != 0 {
         return Fired::Stopped(n);
     }
-    steps::fire(file, t, table, choices, threads, count, markers, listed, r, s)
+    steps::fire(
+        file,
+        t,
+        table,
+        choices,
+        threads,
+        count,
+        markers,
+        listed,
+        r,
+        s,
+    )
 }
 
 // A step: 23 to 29, or the counts after it.
@@ -137,6 +158,220 @@ pub fn step(
         return Fired::Stopped(23);
     }
     step_formed(
-        file, t, &table, choices, threads, count, markers, listed, r, s,
+        file,
+        t,
+        &table,
+        choices,
+        threads,
+        count,
+        markers,
+        listed,
+        r,
+        s,
     )
+}
+
+// The step of a ready pair as one turn of the walk.
+fn pair_turn(
+    file: &[u8],
+    t: Trailer,
+    table: &[u64],
+    choices: &[u8],
+    threads: &mut [u32],
+    count: usize,
+    markers: &mut [u16],
+    listed: usize,
+    r: usize,
+    s: usize,
+) -> Stride
+    requires { ⌜ IsRead (now file) t × (length (now choices) ≡ 128) × (length (now table) ≡ 4096) × AllFree (now table) (arrayOf (now file) t) ⌝ }
+    requires { ⌜ formed (arrayOf (now file) t) (memory (now threads) count (now markers) listed) ≡ true × (r < count) × (s < count) ⌝ }
+    requires { ⌜ meeting (arrayOf (now file) t) (getD (threadsIn (t .names) count (now threads)) r nobody)
+        (getD (threadsIn (t .names) count (now threads)) s nobody) ≡ 0 ⌝ }
+    ensures { λ e. ⌜ Strides (arrayOf (now (file .entry)) t) (memory (now (threads .entry)) count (now (markers .entry)) listed)
+        (turnIn (arrayOf (now (file .entry)) t) (memory (now (threads .entry)) count (now (markers .entry)) listed) (try (choicesOf (now (choices .entry))) r s))
+        e (now (threads .exit)) (now (markers .exit)) ⌝ }
+{
+    let width = 2 + t.names;
+    let receiver = wire::wide(threads[r * width]);
+    let sender = wire::wide(threads[s * width]);
+    let fired = steps::fire(
+        file,
+        t,
+        table,
+        choices,
+        threads,
+        count,
+        markers,
+        listed,
+        r,
+        s,
+    );
+    match fired {
+        Fired::Stopped(_number) => Stride::Ended(Ending::Full),
+        Fired::Made(used, noted, marker) => Stride::Made(Turn {
+            receiver,
+            sender,
+            marker,
+            threads: used,
+            markers: noted,
+        }),
+    }
+}
+
+// One turn of the walk on well-formed lists; `done` where no step is allowed any more.
+fn stride_formed(
+    file: &[u8],
+    t: Trailer,
+    table: &[u64],
+    choices: &[u8],
+    threads: &mut [u32],
+    count: usize,
+    markers: &mut [u16],
+    listed: usize,
+    done: bool,
+) -> Stride
+    requires { ⌜ IsRead (now file) t × (length (now choices) ≡ 128) × (length (now table) ≡ 4096) × AllFree (now table) (arrayOf (now file) t) ⌝ }
+    requires { ⌜ formed (arrayOf (now file) t) (memory (now threads) count (now markers) listed) ≡ true ⌝ }
+    ensures { λ e. ⌜ Strides (arrayOf (now (file .entry)) t) (memory (now (threads .entry)) count (now (markers .entry)) listed)
+        (strideIn (arrayOf (now (file .entry)) t) (choicesOf (now (choices .entry))) done (memory (now (threads .entry)) count (now (markers .entry)) listed))
+        e (now (threads .exit)) (now (markers .exit)) ⌝ }
+{
+    let found = ready::first_ready(file, t, threads, count);
+    match found {
+        Ready::Nothing => Stride::Ended(Ending::Quiet),
+        Ready::At(r, s) => {
+            if done {
+                return Stride::Ended(Ending::Spent);
+            }
+            pair_turn(
+                file,
+                t,
+                table,
+                choices,
+                threads,
+                count,
+                markers,
+                listed,
+                r,
+                s,
+            )
+        }
+    }
+}
+
+// The walk on well-formed lists. The allowance passes from step to step.
+fn walk_formed(
+    file: &[u8],
+    t: Trailer,
+    table: &[u64],
+    choices: &[u8],
+    threads: &mut [u32],
+    count: usize,
+    markers: &mut [u16],
+    listed: usize,
+    allowed: u32,
+) -> Walk
+    requires { ⌜ IsRead (now file) t × (length (now choices) ≡ 128) × (length (now table) ≡ 4096) × AllFree (now table) (arrayOf (now file) t) ⌝ }
+    requires { ⌜ formed (arrayOf (now file) t) (memory (now threads) count (now markers) listed) ≡ true ⌝ }
+    ensures { λ w. ⌜ walkedOf w (now (threads .exit)) (now (markers .exit))
+        ≡ walkIn (arrayOf (now (file .entry)) t) (choicesOf (now (choices .entry))) allowed (memory (now (threads .entry)) count (now (markers .entry)) listed) ⌝ }
+{
+    let mut allowance = Allowance { left: allowed };
+    let mut used = count;
+    let mut noted = listed;
+    loop {
+        let left = allowance.left;
+        let stride = stride_formed(
+            file,
+            t,
+            table,
+            choices,
+            threads,
+            used,
+            markers,
+            noted,
+            left == 0,
+        );
+        match stride {
+            Stride::Ended(ending) => {
+                return Walk {
+                    ending,
+                    steps: allowed - left,
+                    threads: used,
+                    markers: noted,
+                };
+            }
+            Stride::Made(turn) => {
+                used = turn.threads;
+                noted = turn.markers;
+                allowance = allowance.spend();
+            }
+        }
+    }
+}
+
+// The walk: 23, or how it ended.
+pub fn walk_lists(
+    file: &[u8],
+    t: Trailer,
+    choices: &[u8],
+    threads: &mut [u32],
+    count: usize,
+    markers: &mut [u16],
+    listed: usize,
+    allowed: u32,
+) -> Walked
+    requires { ⌜ IsRead (now file) t × (length (now choices) ≡ 128) ⌝ }
+    ensures { λ e. ⌜ Walks (arrayOf (now (file .entry)) t) (choicesOf (now (choices .entry))) allowed
+        (memory (now (threads .entry)) count (now (markers .entry)) listed) e (now (threads .exit)) (now (markers .exit)) ⌝ }
+{
+    let mut table = [0u64; 4096];
+    frees::fill_frees(&mut table, file, t);
+    if !lent::well_formed(file, t, &table, threads, count, markers, listed) {
+        return Walked::Refused(23);
+    }
+    Walked::Walked(walk_formed(
+        file,
+        t,
+        &table,
+        choices,
+        threads,
+        count,
+        markers,
+        listed,
+        allowed,
+    ))
+}
+
+// One turn of a walk that has steps left: 23, an ending, or the step made.
+pub fn next_turn(
+    file: &[u8],
+    t: Trailer,
+    choices: &[u8],
+    threads: &mut [u32],
+    count: usize,
+    markers: &mut [u16],
+    listed: usize,
+) -> Strode
+    requires { ⌜ IsRead (now file) t × (length (now choices) ≡ 128) ⌝ }
+    ensures { λ e. ⌜ Turns (arrayOf (now (file .entry)) t) (choicesOf (now (choices .entry)))
+        (memory (now (threads .entry)) count (now (markers .entry)) listed) e (now (threads .exit)) (now (markers .exit)) ⌝ }
+{
+    let mut table = [0u64; 4096];
+    frees::fill_frees(&mut table, file, t);
+    if !lent::well_formed(file, t, &table, threads, count, markers, listed) {
+        return Strode::Refused(23);
+    }
+    Strode::Strode(stride_formed(
+        file,
+        t,
+        &table,
+        choices,
+        threads,
+        count,
+        markers,
+        listed,
+        false,
+    ))
 }

@@ -129,8 +129,7 @@ fire-pair-requires c κs =
     let l = now (x .threads) in
     let fits = fit (now (x .file)) (x .t) read l (x .count) (now (x .markers)) (x .listed) formed in
     let f = now (x .file) in
-    let at : ℕ → _ = λ i. recordAt f (x .t .start + 16 * i) in
-    (
+    let at : ℕ → _ = λ i. recordAt f (x .t .start + 16 * i) in (
       p .0,
       record {
         formed = formed;

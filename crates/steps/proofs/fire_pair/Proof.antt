@@ -134,8 +134,7 @@ returns-3 c =
     let e = c .before .before .before .before .before .before .before .before .threads-after .ensures in
     let few = enough _ _ (c .before .before .before .before .before .before .before .if1 .left) in
     let size = e ∙ count-exact read ok ch (rw (← e) (few .0)) in
-    let five : x .p .kind ≡ 5 = omega (arith, receiver-kind read ok ch, c .before .before .before .before .before .if2 .left) in
-    (
+    let five : x .p .kind ≡ 5 = omega (arith, receiver-kind read ok ch, c .before .before .before .before .before .if2 .left) in (
       in-made read ok ch five _ _ (c .before .before .advance-here .ensures) (size ∙ same-size read ok ch _) (omega (arith, few .0, few .1)),
       in-told read ok ch five,
     )

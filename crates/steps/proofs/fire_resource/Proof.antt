@@ -120,10 +120,9 @@ returns c =
     let ok = p .1 .0 .0 in
     let ch = now (x .choices) in
     let eq = c .before .before .before .before .before .find-entry .ensures ∙ ap (λ (e : N.Entry). position e (entriesIn (x .listed) (now (x .markers)))) (c .before .before .before .before .before .before .before .entry-of .ensures) in
-    let at : ℕ → List ℕ = λ k. put 0 (wordsOf (advanced (now (x .file)) (x .t) ch (threadsIn (x .t .names) (x .count) (now (x .threads))) (x .r) (x .s) k (x .p) (x .q))) (now (x .threads)) in
-    (
+    let at : ℕ → List ℕ = λ k. put 0 (wordsOf (advanced (now (x .file)) (x .t) ch (threadsIn (x .t .names) (x .count) (now (x .threads))) (x .r) (x .s) k (x .p) (x .q))) (now (x .threads)) in (
       found-made read ok ch (p .1 .0 .1) _ _ (p .1 .1 .1) (omega (arith, eq, c .before .before .before .before .if1 .taken)) (c .before .before .advance-here .ensures ∙ ap (λ (k : ℕ). at (k + 1)) eq)
-      (p .1 .1 .0 ∙ same-size read ok ch _),
+          (p .1 .1 .0 ∙ same-size read ok ch _),
       ap (λ (k : ℕ). k + 1) eq ∙ found-told read ok ch (p .1 .0 .1),
     )
 
@@ -140,11 +139,10 @@ returns-2 c =
     let read = p .0 .0 in
     let ok = p .1 .0 .0 in
     let ch = now (x .choices) in
-    let eq = c .before .before .find-entry .ensures ∙ ap (λ (e : N.Entry). position e (entriesIn (x .listed) (now (x .markers)))) (c .before .before .before .before .entry-of .ensures) in
-    (
+    let eq = c .before .before .find-entry .ensures ∙ ap (λ (e : N.Entry). position e (entriesIn (x .listed) (now (x .markers)))) (c .before .before .before .before .entry-of .ensures) in (
       (
         unlisted read ok ch (p .1 .0 .1) (omega (arith, eq, c .before .if1 .left)) (full (x .listed) (length (now (x .markers))) (c .if2 .taken))
-        (le-of (p .1 .1 .0) (p .1 .1 .1)),
+            (le-of (p .1 .1 .0) (p .1 .1 .1)),
         refl,
         refl,
       ),
@@ -212,11 +210,10 @@ returns-3 c =
     let at : ℕ → List ℕ = λ k. put 0 (wordsOf (advanced (now (x .file)) (x .t) ch (threadsIn (x .t .names) (x .count) (now (x .threads))) (x .r) (x .s) k (x .p) (x .q))) (now (x .threads)) in
     let w = 2 + x .t .names in
     let past : x .listed ≤ position (entryAt (now (x .threads)) (x .r * w) (x .s * w)) (entriesIn (x .listed) (now (x .markers))) =
-    omega (arith, eq, c .before .before .before .before .before .before .before .before .before .if1 .left) in
-    (
+    omega (arith, eq, c .before .before .before .before .before .before .before .before .before .if1 .left) in (
       added-made read ok ch (p .1 .0 .1) _ _ (p .1 .1 .1) past (room-left (x .listed) (length (now (x .markers))) (c .before .before .before .before .before .before .before .before .if2 .left)) _
-      (c .before .before .before .before .before .before .add-entry .ensures ∙ ap (λ (e : N.Entry). put (4 * x .listed) (entryNumbers e) (now (x .markers))) (c .before .before .before .before .before .before .before .before .before .before .before .before .entry-of .ensures))
-      (c .before .before .advance-here2 .ensures) (p .1 .1 .0 ∙ same-size read ok ch _),
+          (c .before .before .before .before .before .before .add-entry .ensures ∙ ap (λ (e : N.Entry). put (4 * x .listed) (entryNumbers e) (now (x .markers))) (c .before .before .before .before .before .before .before .before .before .before .before .before .entry-of .ensures))
+          (c .before .before .advance-here2 .ensures) (p .1 .1 .0 ∙ same-size read ok ch _),
       added-told read ok ch (p .1 .0 .1) past,
     )
 
