@@ -1,7 +1,7 @@
 -- What the engine's calls say of the model: agents of well-formed lists, a pair that was found, steps that are refused or made, and
 -- the walk as a chain of turns.
 use Prim.Native.Nat.{ℕ, zero, suc, _+_, _*_, _-_, _≤_, _<_}
-use native.Mathlib.Nat.{zero-add}
+use native.Mathlib.Nat.{zero-add, add-zero}
 use native.Mathlib.Omega.{arith}
 use mathlib.Core.Path.{_≡_, refl, sym, ap, ap₂, _∙_, subst}
 use mathlib.Core.Logic.{_⊎_, inl, inr, _≢_, ⊎-elim}
@@ -33,10 +33,13 @@ use Rattle.ready.proofs.Attempts.{attempt-24, attempt-refused, first-is}
 use Rattle.steps.specs.declared.Fired.{Fired}
 use Rattle.steps.specs.declared.Fired.the-variants.{Stopped, Made}
 use Rattle.steps.specs.Steps.{memory, Fires}
+use Rattle.engine.specs.declared.Ending.{Ending}
 use Rattle.engine.specs.declared.Ending.the-variants.{Full}
+use Rattle.engine.specs.declared.Turn.{Turn}
+use Rattle.engine.specs.declared.Stride.{Stride}
 use Rattle.engine.specs.declared.Stride.the-variants.{Ended}
 use Rattle.engine.specs.declared.Stride.the-variants as E
-use Rattle.engine.specs.Engine.{Next, ended, moved, onResult, turnIn, onFound, strideIn, Strides, added}
+use Rattle.engine.specs.Engine.{Next, ended, moved, onResult, turnIn, onFound, strideIn, Strides, added, endingOf, walkedOf, checkedStep}
 
 -- ---- a pair that was found
 
@@ -250,8 +253,7 @@ module _ (f : List ℕ) (t : Trailer) (choices l : List ℕ) (count : ℕ) (ml :
       → Strides A N (turnIn A N v) (E.Made record { receiver = p; sender = q; marker = y; threads = k; markers = j }) l′ ml′
   unfolding turnIn onResult
   turn-made e k j y l′ ml′ h z p q ep eq hr hs =
-      let g = subst (λ (x : Fired). Fires f t choices l count ml listed r s x l′ ml′) z h in
-      (
+      let g = subst (λ (x : Fired). Fires f t choices l count ml listed r s x l′ ml′) z h in (
         v,
         ap (onResult v) (g .0),
         record {
@@ -262,3 +264,40 @@ module _ (f : List ℕ) (t : Trailer) (choices l : List ℕ) (count : ℕ) (ml :
           markers = refl;
         },
       )
+
+-- ---- refusal 23
+
+pub checked-23 : (a : Array) (m : Memory) (u : Attempt) → formed a m ≡ false → checkedStep a m u ≡ stops 23
+unfolding checkedStep
+checked-23 a m u e = rw e
+
+pub checked-step : (a : Array) (m : Memory) (u : Attempt) → formed a m ≡ true → checkedStep a m u ≡ stepIn a m u
+unfolding checkedStep
+checked-step a m u e = rw e
+
+-- ---- the walk's loop: n steps made, j allowed still, the lists now m
+
+module _ (a : Array) (ch : Choices) (k : ℕ) (m₀ : Memory) (n j : ℕ) (m : Memory) (e : walkIn a ch k m₀ ≡ added n (walkIn a ch j m))
+    (x : Stride) (l ml : List ℕ) (s : Strides a m (strideIn a ch (eqb j 0) m) x l ml) where
+  pub walk-ends : (y : Ending) → x ≡ Ended y → walkedOf record { ending = y; steps = n; threads = m .threadCount; markers = m .markerCount } l ml ≡ walkIn a ch k m₀
+  walk-ends y q =
+      let z = subst (λ (v : Stride). Strides a m (strideIn a ch (eqb j 0) m) v l ml) q s in
+      let w = e ∙ ap (added n) (walk-ended a ch j m (endingOf y) (z .0)) in
+      let zero : n + 0 ≡ n = add-zero n in
+      sym (w ∙ (λ i. record { ending = endingOf y; steps = zero i; left = memory (sym (z .1) i) (m .threadCount) (sym (z .2) i) (m .markerCount) }))
+
+  module _ (y : Turn) (q : x ≡ E.Made y) where
+    abbrev z : Strides a m (strideIn a ch (eqb j 0) m) (E.Made y) l ml
+    z = subst (λ (v : Stride). Strides a m (strideIn a ch (eqb j 0) m) v l ml) q s
+
+    pub walk-allowed : 0 < j
+    walk-allowed = was-allowed a ch j m (z .0) _ (z .1)
+
+    pub walk-formed : WellFormed a → formed a m ≡ true → formed a (memory l (y .threads) ml (y .markers)) ≡ true
+    walk-formed wf ok = still-formed a ch j m (z .0) _ (z .1) wf ok
+
+    pub walk-goes : (i d : ℕ) → i + 1 ≡ j → n + 1 ≡ d → walkIn a ch k m₀ ≡ added d (walkIn a ch i (memory l (y .threads) ml (y .markers)))
+    walk-goes i d p g =
+        let f : j - 1 ≡ i = omega arith in
+        e ∙ ap (added n) (walk-moved a ch j m (z .0) _ (z .1)) ∙ one-added n _
+        ∙ ap₂ (λ (u v : ℕ). added u (walkIn a ch v (memory l (y .threads) ml (y .markers)))) g f

@@ -40,8 +40,7 @@ returns c =
     let l = now (x .threads) in
     let ml = now (x .markers) in
     let ch = now (x .choices) in
-    let cs = choicesOf ch in
-    (
+    let cs = choicesOf ch in (
       stride-spent f (x .t) read l (x .count) ml (x .listed) cs (x .done) _ (c .before .before .before .before .first-ready .ensures cs) _ _ (c .before .before .found .given .1) (c .if1 .taken),
       refl,
       refl,
