@@ -1,4 +1,4 @@
-//! The step engine on lent lists of words: start, step and walk,
+//! The step engine on lent lists of words: start, step, stride and walk,
 //! with refusals 22 to 29. A refused call changes no lent word.
 
 use std::collections::HashSet;
@@ -325,6 +325,47 @@ pub fn step(
         sender,
     )?;
     Ok(counts)
+}
+
+/// What came of one step of a walk: the step with the counts after it, or why there was none.
+#[derive(Clone, Copy, Debug, PartialEq, Eq)]
+pub enum Stride {
+    Quiet,
+    Full,
+    Made(Made, Counts),
+}
+
+/// Makes the step of the first ready pair and tells it.
+pub fn stride(
+    array: &[u8],
+    choices: &[u8],
+    threads: &mut [u32],
+    thread_count: usize,
+    markers: &mut [u16],
+    marker_count: usize,
+) -> Result<Stride, Refusal> {
+    let array = read_array(array)?;
+    check_choices(choices)?;
+    if !well_formed(&array, threads, thread_count, markers, marker_count) {
+        return refuse(23);
+    }
+    let Some((receiver, sender)) = first_ready(&array, threads, thread_count) else {
+        return Ok(Stride::Quiet);
+    };
+    let result = make_step(
+        &array,
+        choices,
+        threads,
+        thread_count,
+        markers,
+        marker_count,
+        receiver,
+        sender,
+    );
+    Ok(match result {
+        Ok((counts, made)) => Stride::Made(made, counts),
+        Err(_) => Stride::Full,
+    })
 }
 
 /// The steps a walk may still make.

@@ -1,24 +1,25 @@
--- What the records of a file that was read say of its agents.
+-- What the records of a file that was read say of its nodes and its agents.
 use Prim.Native.Nat.{ℕ, _+_, _*_, _≤_, _<_}
 use native.Mathlib.Omega.{arith}
 use mathlib.Core.Path.{_≡_, refl, sym, ap, _∙_}
-use mathlib.Core.Bool.{Bool, true, false, cond, not}
-use mathlib.Core.List.{List, []}
-use mathlib.Core.Option.{Option, none, some}
-use lib.Dec.{eqb}
-use lib.ListN.{length, getD}
-use lib.Seq.{length-take-le, getD-take}
-use Rattle.laws.specs.Lists.{All}
-use Rattle.laws.proofs.Lists.{has-here}
+use mathlib.Core.Bool.{Bool, true, false, cond, not, _||_}
+use mathlib.Core.List.{List}
+use mathlib.Core.Option.{none, some}
+use lib.Dec.{eqb, ltb}
+use lib.ListN.{length}
+use lib.Seq.{length-take-le}
+use borrow.Author.Tests.{ltb-true}
+use Rattle.laws.specs.Lists.{All, all}
+use Rattle.laws.proofs.Search.{and-split}
 use Rattle.model.specs.Tree.{Array, out, inp, resource, Node, nodeAt, Proc, procAt, agentAt, receives}
 use Rattle.model.specs.Nodes.{agentOf}
-use Rattle.model.specs.Formed.{children, WellFormed}
-use Rattle.model.proofs.Tree.{child-above, wf-procAt, agent-tree, AgentWf}
+use Rattle.model.specs.Formed.{binds, WellFormed}
+use Rattle.model.proofs.Tree.{names-below, wf-procAt, agent-tree, AgentWf}
 use Rattle.model.proofs.Nodes.{agent-at}
 use Rattle.records.specs.declared.Record.{Record}
 use Rattle.records.specs.declared.Trailer.{Trailer}
 use Rattle.records.specs.Record.{recordOf, argsOf, nodeOf, arrayOf}
-use Rattle.records.proofs.Laws.{by-kind, kind-above, eight-args, node-of}
+use Rattle.records.proofs.Laws.{by-kind, kind-above, eight-args, node-read, child-of, left-child, right-child}
 use Rattle.arrays.specs.File.{IsRead}
 use Rattle.arrays.specs.Agents.{sortOf, agentIn, Reads}
 use Rattle.arrays.proofs.Laws.{kind-small, arity-small}
@@ -59,7 +60,22 @@ module _ {f : List ℕ} {t : Trailer} (read : IsRead f t) where
   wf = read .formed
 
   pub node-is : {i : ℕ} {r : Record} → Reads f t i r → nodeAt a i ≡ nodeOf r
-  node-is {i} h = node-of f t i (h .below) ∙ ap nodeOf (sym (h .is))
+  node-is {i} {r} h = node-read f t i r (h .below) (h .is)
+
+  -- its children lie above it
+  pub left-above : {i : ℕ} {r : Record} → Reads f t i r → 0 < r .kind → (i < r .left) × (r .left < t .nodes)
+  left-above {i} {r} h k = child-of f t i r (h .below) (h .is) (wf .children) (r .left) (left-child r k)
+
+  pub right-above : {i : ℕ} {r : Record} → Reads f t i r → eqb (r .kind) 2 || eqb (r .kind) 3 ≡ true → (i < r .right) × (r .right < t .nodes)
+  right-above {i} {r} h k = child-of f t i r (h .below) (h .is) (wf .children) (r .right) (right-child r k)
+
+  -- a new opens one of the array's names
+  pub new-below : {i : ℕ} {r : Record} → Reads f t i r → r .kind ≡ 1 → r .name < t .names
+  unfolding binds all nodeOf
+  new-below {i} {r} h k =
+      let b = names-below a (wf .named) i (h .below) .1 in
+      let e : nodeAt a i ≡ Node.new (r .name) (r .left) = node-is h ∙ rw k in
+      ltb-true _ _ (and-split (ltb (r .name) (t .names)) true (ap (λ (v : Node). all (λ n. ltb n (t .names)) (binds v)) (sym e) ∙ b) .0)
 
   pub agent-is : {i : ℕ} {r : Record} → Reads f t i r → 4 ≤ r .kind → agentAt a i ≡ some (agentIn a r)
   agent-is {i} {r} h k = agent-at a (wf .children) i (h .below) ∙ ap (agentOf (λ l. procAt a l)) (node-is h) ∙ agent-some (λ l. procAt a l) r k
@@ -92,5 +108,4 @@ module _ {f : List ℕ} {t : Trailer} (read : IsRead f t) where
 
   -- its continuation is a node
   pub left-below : {i : ℕ} {r : Record} → Reads f t i r → 4 ≤ r .kind → r .left < t .nodes
-  unfolding children
-  left-below {i} {r} h k = child-above a (wf .children) i (r .left) (rw (node-is h, agent-node r k) (has-here (r .left) [])) .1
+  left-below h k = left-above h (omega arith) .1

@@ -4,9 +4,9 @@
 -- one binder for each name (Reach.binder, Reach.one-binder), uses within reach (Closed.use-reach), no free name at the root (Closed.closed).
 use Prim.Native.Nat.{ℕ, _+_, _*_, _≤_, _<_}
 use mathlib.Core.Path.{_≡_, refl, sym, ap, ap₂, _∙_, subst}
-use mathlib.Core.Bool.{true, false, _&&_, _||_}
+use mathlib.Core.Bool.{true, _&&_}
 use mathlib.Core.List.{List}
-use lib.Dec.{eqb, leb}
+use lib.Dec.{leb}
 use lib.ListN.{length}
 use borrow.Author.Tests.{leb-true, eqb-true}
 use Rattle.laws.specs.Search.{Found, clear, hit}
@@ -15,9 +15,8 @@ use Rattle.model.specs.Formed as F
 use Rattle.records.specs.declared.Trailer.{Trailer}
 use Rattle.records.specs.declared.Refusal.{Refusal}
 use Rattle.records.specs.declared.Check.{Check}
-use Rattle.records.specs.Record.{recordOf, arrayOf, foundOf}
-use Rattle.fields.specs.Fields.{shapeFits, refusal6, refusal7}
-use Rattle.arrays.specs.declared.ArrayAnswer.{ArrayAnswer}
+use Rattle.records.specs.Record.{recordOf, foundOf}
+use Rattle.fields.specs.Fields.{shapeFits, refusal6}
 use Rattle.arrays.specs.declared.ArrayAnswer.the-variants.{Read, Refused}
 use Rattle.arrays.specs.File.{trailerOf, lengthFits, countsFit, startFits, refusal1, from2, arrayRefusal, answer, readArray, IsRead}
 

@@ -5,17 +5,17 @@ use native.Mathlib.Nat.{eq-or-lt-of-le, zero-add}
 use native.Mathlib.Omega.{arith}
 use mathlib.Core.Path.{_≡_, refl, sym, ap, ap₂, _∙_}
 use mathlib.Core.Logic.{_≢_, ⊎-elim}
-use mathlib.Core.Bool.{Bool, true, false, not, _&&_, _||_, or-false, or-assoc}
+use mathlib.Core.Bool.{Bool, true, not, _&&_, _||_, or-false, or-assoc}
 use mathlib.Core.List.{List, [], _∷_}
 use lib.Bits.{bitAnd, bitOr, bitXor}
-use lib.Dec.{eqb, leb, ltb}
+use lib.Dec.{eqb, leb}
 use lib.ListN.{length, getD, set}
 use lib.Seq.{getD-set-same, getD-set-other}
-use borrow.Author.Tests.{eqb-false, le-leb, eq-eqb, lt-ltb}
+use borrow.Author.Tests.{le-leb}
 use Rattle.laws.specs.Search.{clear, any}
 use Rattle.laws.specs.Lists.{has}
 use Rattle.laws.specs.Bits.{bit}
-use Rattle.laws.proofs.Search.{and-join, or-left, or-right, any-step}
+use Rattle.laws.proofs.Search.{any-step}
 use Rattle.laws.proofs.Lists.{has-here, has-later}
 use Rattle.laws.proofs.Bits.{bit-or, bit-less}
 use Rattle.marks.specs.Marks.{marked, markIf}
@@ -28,8 +28,7 @@ use Rattle.model.proofs.Nodes.{free-at}
 use Rattle.records.specs.declared.Record.{Record}
 use Rattle.records.specs.declared.Trailer.{Trailer}
 use Rattle.records.specs.Record.{argsOf, recordOf, nodeOf, arrayOf}
-use Rattle.records.proofs.Laws.{by-kind, kind-above, node-of}
-use Rattle.scopes.proofs.Laws.{children-of}
+use Rattle.records.proofs.Laws.{by-kind, kind-above, node-read}
 use Rattle.frees.specs.Frees.{atChild, RowFilled, FreeFrom}
 
 -- ---- the names that news open
@@ -47,7 +46,7 @@ pub opened-more : (s : List ℕ) (t : Trailer) (row : List ℕ) (j : ℕ) (r : R
     → Opened (arrayOf s t) row j → Opened (arrayOf s t) (markIf row (eqb (r .kind) 1) (r .name)) (j + 1)
 opened-more s t row j r four small h e before o =
     marked-more row (eqb (r .kind) 1) (r .name) o four small
-    ∙ ap₂ _||_ (before o) (sym (opens-of r o) ∙ ap (λ (n : Node). opens n o) (ap nodeOf e ∙ sym (node-of s t j h)))
+    ∙ ap₂ _||_ (before o) (sym (opens-of r o) ∙ ap (λ (n : Node). opens n o) (sym (node-read s t j r h e)))
     ∙ sym (any-step (λ i. opens (nodeAt (arrayOf s t) i) o) j)
 
 -- ---- a node's free names
@@ -76,7 +75,7 @@ child-agree f g (Node.par l r) h = ap₂ _||_ (h l (has-here l (r ∷ []))) (h r
 child-agree f g (Node.choice l r) h = ap₂ _||_ (h l (has-here l (r ∷ []))) (h r (has-later l (r ∷ []) r (has-here r [])))
 child-agree f g (Node.agent s x ys l) h = h l (has-here l [])
 
--- ---- a record's uses and children, by its kind
+-- ---- a record's uses, and tests at its children, by its kind
 
 module _ (r : Record) where
   pub used-of : (v : ℕ) → has (uses (nodeOf r)) v ≡ (leb 4 (r .kind) && eqb v (r .name)) || (eqb (r .kind) 4 && has (argsOf r) v)
@@ -84,16 +83,6 @@ module _ (r : Record) where
   used-of v =
       by-kind r (λ k n. has (uses n) v ≡ (leb 4 k && eqb v (r .name)) || (eqb k 4 && has (argsOf r) v)) refl refl refl refl refl refl
       (λ k h. rw (kind-above k 4 h (omega arith), le-leb 4 k (omega arith)))
-
-  pub left-child : eqb (r .kind) 0 ≡ false → has (children (nodeOf r)) (r .left) ≡ true
-  left-child e =
-      let z = eqb-false (r .kind) 0 e in
-      children-of r (r .left) ∙ or-left _ _ (and-join (lt-ltb 0 (r .kind) (omega arith)) (eq-eqb (r .left) (r .left) refl))
-
-  pub right-child : eqb (r .kind) 2 || eqb (r .kind) 3 ≡ true → has (children (nodeOf r)) (r .right) ≡ true
-  right-child e =
-      children-of r (r .right)
-      ∙ or-right (ltb 0 (r .kind) && eqb (r .right) (r .left)) _ (and-join e (eq-eqb (r .right) (r .right) refl))
 
   -- a test at some child, by the kind
   pub child-kind : (f : ℕ → Bool) → atChild f (nodeOf r) ≡ not (eqb (r .kind) 0) && (f (r .left) || ((eqb (r .kind) 2 || eqb (r .kind) 3) && f (r .right)))

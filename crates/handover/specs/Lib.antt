@@ -1,2 +1,3 @@
 pub mod Front
+pub mod Engine
 pub mod Files

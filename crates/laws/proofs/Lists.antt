@@ -8,7 +8,7 @@ use mathlib.Core.Bool.{Bool, true, false, cond, _&&_, _||_, false≢true}
 use mathlib.Core.List.{List, [], _∷_, _++_, map}
 use lib.Dec.{eqb, leb, ltb, leb·suc-zero, leb·suc-suc}
 use lib.ListN.{length, getD, take, drop, set, replicate}
-use lib.Seq.{take-nil, getD-set-same, getD-set-other}
+use lib.Seq.{take-nil, getD-take, length-take-le, getD-set-same, getD-set-other}
 use borrow.Author.Tests.{eqb-true, eqb-false, eq-eqb, le-leb, lt-ltb, le-ltb}
 use borrow.Author.Count.{below-more}
 use Rattle.laws.specs.Search.{every, any, sum}
@@ -25,6 +25,12 @@ pub All-getD : {A : Type 0} (P : A → Type 0) (xs : List A) (i : ℕ) (d : A) �
 All-getD P [] i d h k = absurd (not-suc-le-zero k)
 All-getD P (x ∷ xs) zero d h k = h .0
 All-getD P (x ∷ xs) (suc i) d h k = All-getD P xs i d (h .1) (le-of-suc-le-suc k)
+
+-- of one of the first n elements
+pub All-front : {A : Type 0} (P : A → Type 0) (n : ℕ) (xs : List A) (k : ℕ) (d : A) → All P (take n xs) → k < n → n ≤ length xs → P (getD xs k d)
+All-front P n xs k d h l room =
+    let e = length-take-le n xs room in
+    subst P (getD-take n xs k d l) (All-getD P (take n xs) k d h (omega arith))
 
 -- where the default meets it too, any position does
 pub All-at : {A : Type 0} (P : A → Type 0) (xs : List A) (i : ℕ) (d : A) → P d → All P xs → P (getD xs i d)

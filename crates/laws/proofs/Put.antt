@@ -1,16 +1,27 @@
 -- The laws of `put`: a list changed in place keeps its length and every word outside what was written.
-use mathlib.Core.Path.{_≡_, refl, sym, ap, _∙_}
+use mathlib.Core.Path.{_≡_, sym, ap, _∙_}
 use mathlib.Core.List.{List, [], _∷_, _++_, append-assoc, append-nil}
-use Prim.Native.Nat.{ℕ, zero, suc, _+_, _-_, _≤_, _<_}
+use Prim.Native.Nat.{ℕ, _+_, _-_, _≤_, _<_}
 use native.Mathlib.Nat.{add-zero, add-assoc, zero-add}
 use native.Mathlib.Numerals.{add-one}
 use native.Mathlib.Omega.{arith}
-use lib.ListN.{length, take, drop, getD, set, length-append, length-take, length-drop, take-append-drop, drop-of-length-le, List·getD-append}
-use lib.Seq.{take-at, drop-at, set-split, drop-drop, getD-drop, getD-take, length-take-le}
+use lib.ListN.{length, take, drop, getD, set, length-append, length-drop, take-append-drop, drop-of-length-le}
+use lib.Seq.{take-at, take-suc, drop-at, set-split, drop-drop, getD-drop, length-take-le}
 use Rattle.laws.specs.Lists.{put}
 
 module _ {A : Type 0} where
-  -- nothing written; everything written
+  -- the j elements from a position on, and one more
+  module _ (l : List A) (from : ℕ) where
+    pub part-length : (j : ℕ) → from + j ≤ length l → length (take j (drop from l)) ≡ j
+    part-length j h = length-take-le j (drop from l) (rw length-drop (omega arith))
+
+    pub part-next : (j : ℕ) (d : A) → from + j < length l → take j (drop from l) ++ (getD l (from + j) d ∷ []) ≡ take (j + 1) (drop from l)
+    part-next j d h =
+        let inside : j < length (drop from l) = rw length-drop (omega arith) in
+        ap (λ (x : A). take j (drop from l) ++ (x ∷ [])) (sym (getD-drop from l j d))
+        ∙ sym (take-suc (drop from l) j d inside) ∙ ap (λ (k : ℕ). take k (drop from l)) (sym (add-one j))
+
+  -- nothing written; everything written; written from the front
   pub put-nil : (at : ℕ) (l : List A) → put at [] l ≡ l
   unfolding put
   put-nil at l = rw (add-zero, take-append-drop)
@@ -19,10 +30,24 @@ module _ {A : Type 0} where
   unfolding put
   put-all xs l h = rw (zero-add, drop-of-length-le l h) (append-nil xs)
 
+  pub put-front : (xs l : List A) → put 0 xs l ≡ xs ++ drop (length xs) l
+  unfolding put
+  put-front xs l = rw zero-add
+
   -- one word
   pub set-as-put : (l : List A) (k : ℕ) (a : A) → k < length l → set l k a ≡ put k (a ∷ []) l
   unfolding put
   set-as-put l k a h = set-split l k a h ∙ ap (λ (n : ℕ). take k l ++ (a ∷ drop n l)) (sym (add-one k))
+
+  -- words written where they stand already
+  pub put-same : (at w : ℕ) (l : List A) → at + w ≤ length l → put at (take w (drop at l)) l ≡ l
+  unfolding put
+  put-same at w l h =
+      let n : length (take w (drop at l)) ≡ w = part-length l at w h in
+      ap (λ (k : ℕ). take at l ++ (take w (drop at l) ++ drop (at + k) l)) n
+      ∙ ap (λ (t : List A). take at l ++ (take w (drop at l) ++ t)) (sym (drop-drop w at l))
+      ∙ ap (λ (t : List A). take at l ++ t) (take-append-drop w (drop at l))
+      ∙ take-append-drop at l
 
   -- words with what stands before them
   pub put-from : (at : ℕ) (xs l : List A) → at + length xs ≤ length l → put at xs l ≡ put 0 (take at l ++ xs) l
@@ -52,6 +77,11 @@ module _ {A : Type 0} where
 
     drop-put-more : (k : ℕ) → drop (at + length xs + k) (put at xs l) ≡ drop (at + length xs + k) l
     drop-put-more k = rw (← drop-drop k (at + length xs) (put at xs l), drop-put, drop-drop)
+
+    pub drop-past : (k : ℕ) → at + length xs ≤ k → drop k (put at xs l) ≡ drop k l
+    drop-past k far =
+        let e : k ≡ at + length xs + (k - (at + length xs)) = omega arith in
+        ap (λ (j : ℕ). drop j (put at xs l)) e ∙ drop-put-more (k - (at + length xs)) ∙ ap (λ (j : ℕ). drop j l) (sym e)
 
     -- words, and more right after them
     pub put-put : (ys : List A) → put (at + length xs) ys (put at xs l) ≡ put at (xs ++ ys) l

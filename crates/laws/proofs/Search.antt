@@ -188,6 +188,10 @@ unfolding every
 true-every zero f h = refl
 true-every (suc n) f h = and-join (true-every n f (λ j l. h j (omega arith))) (h n (omega arith))
 
+-- a loop passes n
+pub every-pass : (f : ℕ → Bool) (n : ℕ) → every n f ≡ true → f n ≡ true → every (n + 1) f ≡ true
+every-pass f n e h = every-step f n ∙ and-join e h
+
 -- a test that fails at a number
 pub every-false : (n : ℕ) (f : ℕ → Bool) → every n f ≡ false → (j : ℕ) × (j < n) × (f j ≡ false)
 unfolding every
@@ -197,6 +201,10 @@ every-false (suc n) f e = go (λ q. every-false n f q) (decided (every n f))
     go : (every n f ≡ false → (j : ℕ) × (j < n) × (f j ≡ false)) → (every n f ≡ true) ⊎ (every n f ≡ false) → (j : ℕ) × (j < suc n) × (f j ≡ false)
     go rest (inl q) = (n, omega arith, rw q at e)
     go rest (inr q) = let s = rest q in (s .0, omega (arith, s .1), s .2)
+
+pub false-every : (n : ℕ) (f : ℕ → Bool) (j : ℕ) → j < n → f j ≡ false → every n f ≡ false
+false-every n f j h e =
+    ⊎-elim (λ (q : every n f ≡ true). absurd (true≢false (sym (every-true n f q j h) ∙ e))) (λ (q : every n f ≡ false). q) (decided (every n f))
 
 pub any-zero : (f : ℕ → Bool) → any 0 f ≡ false
 unfolding any
@@ -272,6 +280,16 @@ any-false zero f e j h = absurd (not-suc-le-zero h)
 any-false (suc n) f e j h =
     let s = or-false (any n f) (f n) e in
     ⊎-elim (λ (q : j ≡ n). rw q (s .1)) (λ (k : j < n). any-false n f (s .0) j k) (eq-or-lt-of-le (le-of-suc-le-suc h))
+
+-- a test fails everywhere exactly where it passes nowhere
+pub every-not : (n : ℕ) (f : ℕ → Bool) → every n (λ j. not (f j)) ≡ not (any n f)
+unfolding every any
+every-not zero f = refl
+every-not (suc n) f = ap (λ (b : Bool). b && not (f n)) (every-not n f) ∙ go (any n f) (f n)
+  where
+    go : (a b : Bool) → not a && not b ≡ not (a || b)
+    go true b = refl
+    go false b = refl
 
 -- the first m numbers apart from the others
 pub every-split : (m n : ℕ) (f : ℕ → Bool) → every (m + n) f ≡ every m f && every n (λ k. f (m + k))

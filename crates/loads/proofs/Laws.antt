@@ -12,18 +12,16 @@ use lib.Seq.{getD-set-same, getD-set-other}
 use borrow.Author.Tests.{le-leb}
 use Rattle.laws.specs.Lists.{has}
 use Rattle.laws.proofs.Lists.{has-here, has-later}
-use Rattle.wire.specs.Numbers.{u16At}
 use Rattle.model.specs.Tree.{Node, procAt, load}
 use Rattle.model.specs.Nodes.{loadOf}
 use Rattle.model.specs.Formed.{children, WellFormed}
 use Rattle.model.specs.Rules.{Table}
-use Rattle.model.proofs.Tree.{child-above}
 use Rattle.model.proofs.Nodes.{load-at}
 use Rattle.model.proofs.Bounds.{load-bound}
 use Rattle.records.specs.declared.Record.{Record}
 use Rattle.records.specs.declared.Trailer.{Trailer}
 use Rattle.records.specs.Record.{recordOf, nodeOf, arrayOf}
-use Rattle.records.proofs.Laws.{by-kind, node-of}
+use Rattle.records.proofs.Laws.{by-kind, node-read, child-of}
 use Rattle.loads.specs.Loads.{Half, loadFrom, FilledFrom}
 
 -- two loads of a node's children that agree give the node one load
@@ -36,7 +34,7 @@ load-agree v w i j f g (Node.par l r) e h = ap₂ _+_ (h l (has-here l (r ∷ []
 load-agree v w i j f g (Node.choice l r) e h = ap₂ max (h l (has-here l (r ∷ []))) (h r (has-later l (r ∷ []) r (has-here r [])))
 load-agree v w i j f g (Node.agent s x ys l) e h = e
 
--- ---- a record's load and its children, by its kind
+-- ---- a record's load, by its kind
 
 -- by the kind k, with f and g for the loads of the left and the right child
 abbrev byKind : ℕ → ℕ → ℕ → ℕ → ℕ
@@ -50,27 +48,6 @@ load-kind loads r k w =
     (λ m n. loadOf (λ i. w) 0 (λ c. getD loads (24 * c + k) 0) n ≡ byKind m w (getD loads (24 * r .left + k) 0) (getD loads (24 * r .right + k) 0))
     refl refl refl refl refl refl
     (λ m h. rw (le-leb 4 m (omega arith)))
-
-module _ (r : Record) where
-  pub left-child : 0 < r .kind → has (children (nodeOf r)) (r .left) ≡ true
-  unfolding children
-  left-child =
-      by-kind r (λ k n. 0 < k → has (children n) (r .left) ≡ true)
-      (λ l. absurd (omega arith)) (λ l. here []) (λ l. here (r .right ∷ [])) (λ l. here (r .right ∷ []))
-      (λ l. here []) (λ l. here []) (λ k h l. here [])
-    where
-      here : (xs : List ℕ) → has (r .left ∷ xs) (r .left) ≡ true
-      here xs = has-here (r .left) xs
-
-  pub right-child : 1 < r .kind → r .kind < 4 → has (children (nodeOf r)) (r .right) ≡ true
-  unfolding children
-  right-child =
-      by-kind r (λ k n. 1 < k → k < 4 → has (children n) (r .right) ≡ true)
-      (λ l m. absurd (omega arith)) (λ l m. absurd (omega arith)) (λ l m. second) (λ l m. second)
-      (λ l m. absurd (omega arith)) (λ l m. absurd (omega arith)) (λ k h l m. absurd (omega arith))
-    where
-      second : has (r .left ∷ r .right ∷ []) (r .right) ≡ true
-      second = has-later (r .left) (r .right ∷ []) (r .right) (has-here (r .right) [])
 
 -- ---- the list while node i's row is filled
 
@@ -101,16 +78,13 @@ module _ (before after : List ℕ) (i k : ℕ) (few : k < 24) (fits : 24 * i + k
 -- ---- the loads of the process tree
 
 module _ (s : List ℕ) (t : Trailer) (ok : WellFormed (arrayOf s t)) (i : ℕ) (h : i < t .nodes) (r : Record) (e : r ≡ recordOf s t i) where
-  pub child-of : (c : ℕ) → has (children (nodeOf r)) c ≡ true → (i < c) × (c < t .nodes)
-  child-of c k = child-above (arrayOf s t) (ok .children) i c (rw (node-of s t i h, ← e) k)
-
   module _ (tab : Table) (few : tab .balances ≤ 24) (before after : List ℕ) (filled : FilledFrom before (arrayOf s t) tab (i + 1))
       (above : SameAbove before after i) where
     -- the entry of a child is at most what 1024 nodes of 16-bit weights could weigh
     pub half-child : length after ≡ 24576 → (k : ℕ) → k < tab .balances → ((j : ℕ) → (tab .balance k) .weight j ≤ 65535)
         → (c : ℕ) → has (children (nodeOf r)) c ≡ true → Half after (24 * c + k)
     half-child size k l small c g =
-        let f = child-of c g in
+        let f = child-of s t i r h e (ok .children) c g in
         let n = ok .fewNodes in
         let b = load-bound (arrayOf s t) (ok .children) (ok .parents) ((tab .balance k) .weight) c (f .1) 65535 small in
         (omega (arith, f .1), omega (arith, above c k (f .0) (omega arith), filled c k (omega (arith, f .0)) (f .1) l))
@@ -125,5 +99,6 @@ module _ (s : List ℕ) (t : Trailer) (ok : WellFormed (arrayOf s t)) (i : ℕ) 
         node-load : (w : ℕ → ℕ) → ((c : ℕ) → i < c → c < t .nodes → getD before (24 * c + k) 0 ≡ load w (procAt (arrayOf s t) c))
             → loadFrom before r k (w i) ≡ load w (procAt (arrayOf s t) i)
         node-load w known =
-            load-agree (λ j. w i) w 0 i _ (λ c. load w (procAt (arrayOf s t) c)) (nodeOf r) refl (λ c g. let f = child-of c g in known c (f .0) (f .1))
-            ∙ sym (load-at (arrayOf s t) (ok .children) i h w ∙ ap (loadOf w i (λ c. load w (procAt (arrayOf s t) c))) (node-of s t i h ∙ ap nodeOf (sym e)))
+            load-agree (λ j. w i) w 0 i _ (λ c. load w (procAt (arrayOf s t) c)) (nodeOf r) refl
+            (λ c g. let f = child-of s t i r h e (ok .children) c g in known c (f .0) (f .1))
+            ∙ sym (load-at (arrayOf s t) (ok .children) i h w ∙ ap (loadOf w i (λ c. load w (procAt (arrayOf s t) c))) (node-read s t i r h e))

@@ -4,15 +4,14 @@ use native.Mathlib.Nat.{not-suc-le-zero, le-of-suc-le-suc, eq-or-lt-of-le, add-z
 use native.Mathlib.Omega.{arith}
 use mathlib.Core.Path.{_≡_, refl, sym, ap, ap₂, _∙_}
 use mathlib.Core.Logic.{_⊎_, inl, inr, ⊎-elim}
-use mathlib.Core.Bool.{Bool, true, false, cond, not, _&&_, _||_, and-assoc, false≢true, true≢false}
+use mathlib.Core.Bool.{Bool, true, false, cond, not, _&&_, _||_, and-assoc, true≢false}
 use mathlib.Core.List.{List, [], _∷_}
 use lib.Dec.{eqb, ltb, leb}
 use lib.ListN.{length, getD, drop, set}
 use lib.Seq.{getD-drop}
 use borrow.Author.Tests.{ltb-true, lt-ltb, le-ltb, eq-eqb}
-use Rattle.laws.specs.Search.{every, any}
 use Rattle.laws.specs.Lists.{put}
-use Rattle.laws.proofs.Search.{decided, or-left, or-right, every-true, every-same, any-zero, any-step, any-true, any-false}
+use Rattle.laws.proofs.Search.{decided, or-left, or-right, every-same, every-not, any-zero, any-step, any-true, any-false}
 use Rattle.laws.proofs.Put.{set-as-put, set-put}
 use Rattle.marks.specs.Marks.{marked, markIf}
 use Rattle.marks.proofs.Laws.{marked-set}
@@ -28,23 +27,6 @@ use Rattle.records.proofs.Laws.{by-kind, kind-above}
 use Rattle.arrays.specs.File.{IsRead}
 use Rattle.arrays.proofs.Laws.{kind-small}
 use Rattle.markers.specs.Markers.{kindIs, slotOf, Seen, listed}
-
--- ---- general
-
--- a test that fails at some number
-pub every-stops : (n : ℕ) (f : ℕ → Bool) (j : ℕ) → j < n → f j ≡ false → every n f ≡ false
-every-stops n f j h e =
-    ⊎-elim (λ (q : every n f ≡ true). absurd (false≢true (sym e ∙ every-true n f q j h))) (λ (q : every n f ≡ false). q) (decided (every n f))
-
--- a test fails everywhere exactly where it passes nowhere
-every-not : (n : ℕ) (f : ℕ → Bool) → every n (λ j. not (f j)) ≡ not (any n f)
-unfolding every any
-every-not zero f = refl
-every-not (suc n) f = ap (λ (b : Bool). b && not (f n)) (every-not n f) ∙ go (any n f) (f n)
-  where
-    go : (a b : Bool) → not a && not b ≡ not (a || b)
-    go true b = refl
-    go false b = refl
 
 -- ---- one entry read and written
 

@@ -1,5 +1,5 @@
 -- What a row holds after a mark, two rows word by word, and the rows of a file.
-use Prim.Native.Nat.{ℕ, _+_, _*_, _/_, _%_, _^_, _<_}
+use Prim.Native.Nat.{ℕ, _+_, _*_, _/_, _%_, _^_, _≤_, _<_}
 use native.Mathlib.Nat.{zero-add, add-zero}
 use native.Mathlib.Omega.{arith}
 use mathlib.Core.Path.{_≡_, refl, sym, ap, ap₂, _∙_}
@@ -8,7 +8,7 @@ use mathlib.Core.Bool.{Bool, true, false, cond, not, _&&_, _||_, or-false}
 use mathlib.Core.List.{List}
 use lib.Bits.{bitOr}
 use lib.Dec.{eqb}
-use lib.ListN.{length, getD, replicate, length-set}
+use lib.ListN.{length, getD, replicate, length-set, List·getD-eq-default}
 use borrow.Author.Tests.{eqb-true, eqb-false, eq-eqb, ne-eqb}
 use Rattle.laws.specs.Search.{any, every}
 use Rattle.laws.specs.Bits.{bit}
@@ -34,6 +34,13 @@ markIf-length row false v = refl
 pub marked-none : (n at v : ℕ) → marked (replicate n 0) at v ≡ false
 unfolding marked
 marked-none n at v = ap (λ (x : ℕ). bit x (v % 64)) (getD-zeros n (at + v / 64)) ∙ bit-zero (v % 64)
+
+-- a row of four words has no mark at 256 or above
+pub marked-past : (row : List ℕ) (o : ℕ) → length row ≡ 4 → 256 ≤ o → marked row 0 o ≡ false
+unfolding marked
+marked-past row o e h =
+    let l : length row ≤ 0 + o / 64 = omega arith in
+    ap (λ (x : ℕ). bit x (o % 64)) (List·getD-eq-default row 0 l) ∙ bit-zero (o % 64)
 
 -- one name more, in a row of any length
 pub marked-set : (row : List ℕ) (v u : ℕ) → v / 64 < length row → marked (markIf row true v) 0 u ≡ marked row 0 u || eqb u v

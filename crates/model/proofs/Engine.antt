@@ -14,7 +14,7 @@ use Rattle.laws.specs.Search.{Found, clear, hit, test, first, every}
 use Rattle.laws.specs.Lists.{All, put}
 use Rattle.laws.proofs.Search.{decided, first-same, first-hit, test-hit}
 use Rattle.laws.proofs.Lists.{All-append, All-getD, All-at, All-map, All-maps, getD-All, below-All}
-use Rattle.laws.proofs.Put.{length-put}
+use Rattle.laws.proofs.Put.{put-front, length-put}
 use Rattle.model.specs.Tree.{Array, Sort, out, inp, resource, Node, nodeAt, Proc, Agent, agentAt, procAt, isFree, receives}
 use Rattle.model.specs.Nodes.{agentOf}
 use Rattle.model.specs.Formed.{WellFormed}
@@ -27,7 +27,7 @@ use Rattle.model.proofs.Nodes.{agent-at}
 use Rattle.model.proofs.Tree.{agent-below}
 use Rattle.model.proofs.Stepped.{Meet, attempt-next}
 use Rattle.model.proofs.Decoded.{after-kept, made-fits}
-use Rattle.model.proofs.Memory.{Wide, length-threads, length-entries, length-words, length-numbers, threads-words, entries-numbers, put-front, thread-room, marker-room, threads-wide}
+use Rattle.model.proofs.Memory.{Wide, length-threads, length-entries, length-words, length-numbers, threads-words, entries-numbers, thread-room, marker-room, threads-wide}
 use Rattle.model.proofs.Words.{cells, decoded, made-same, list-cells, markers-cells, attempt-words, start-words}
 use Rattle.model.proofs.Lent.{Holds, Ok, formed-ok, ok-formed, Kinds, Sound}
 use Rattle.model.proofs.Covers as C

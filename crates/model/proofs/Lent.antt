@@ -1,41 +1,33 @@
 -- Refusal 23: what the test says of lent lists, and that what says so passes the test.
-use Prim.Native.Nat.{ℕ, zero, suc, _+_, _≤_, _<_}
+use Prim.Native.Nat.{ℕ, _≤_, _<_}
 use native.Mathlib.Nat.{le-trans, le-of-lt}
 use native.Mathlib.Omega.{arith}
 use mathlib.Core.Path.{_≡_, refl, sym, ap, _∙_, subst}
 use mathlib.Core.Logic.{_⊎_, inl, inr, _≢_, ⊎-elim}
-use mathlib.Core.Bool.{Bool, true, false, cond, not, _&&_, _||_, false≢true, true≢false}
-use mathlib.Core.List.{List, [], _∷_, _++_, map}
-use mathlib.Core.Option.{Option, none, some}
+use mathlib.Core.Bool.{Bool, true, false, not, _&&_, false≢true, true≢false}
+use mathlib.Core.List.{List}
+use mathlib.Core.Option.{some}
 use lib.Dec.{eqb, ltb, leb}
 use lib.ListN.{length, getD, List·getD-eq-default}
-use borrow.Author.Tests.{eqb-true, eqb-false, eq-eqb, ne-eqb, leb-true, le-leb, ltb-true, ltb-false, not-true, not-false}
+use borrow.Author.Tests.{eqb-true, eqb-false, eq-eqb, ne-eqb, leb-true, le-leb, ltb-true, ltb-false, not-true}
 use Rattle.laws.specs.Search.{every}
-use Rattle.laws.specs.Lists.{All, all, has}
+use Rattle.laws.specs.Lists.{All, has}
 use Rattle.laws.proofs.Search.{decided, and-split, and-join, or-split, every-true, true-every}
 use Rattle.laws.proofs.Lists.{All-has, every-All, All-every}
-use Rattle.model.specs.Tree.{Array, Sort, out, inp, resource, Node, nodeAt, isAgent, Proc, Agent, agentAt, procAt, isFree, freeBelow, isNew}
+use Rattle.model.specs.Tree.{Array, Sort, out, inp, resource, Node, nodeAt, isAgent, Proc, Agent, procAt, isFree, freeBelow, isNew}
 use Rattle.model.specs.Nodes.{agentOf}
 use Rattle.model.specs.Formed.{WellFormed}
 use Rattle.model.specs.Calculus.{Thread, Config}
 use Rattle.model.specs.Numbers.{Entry, noEntry, sameEntry, Listed, nobody}
 use Rattle.model.specs.Memory.{opening, newIn, markerIn, words, Memory, configOf, entriesOf, threadRoom, markerRoom, isResource, isOut}
 use Rattle.model.specs.Memory.{wordFormed, threadFormed, entryFormed, unlike, formed}
-use Rattle.model.proofs.Tree.{Wf, wf-procAt}
+use Rattle.model.proofs.Tree.{agent-inside, Wf, wf-procAt}
 use Rattle.model.proofs.Nodes.{agent-at}
 use Rattle.model.proofs.Markers.{entry-eq, entry-same}
-use Rattle.model.proofs.Memory.{Wide, length-threads, length-entries, thread-room, threads-wide}
+use Rattle.model.proofs.Memory.{length-threads, length-entries}
 use Rattle.model.proofs.Covers as C
 
 -- ---- agents by node and by tree
-
-node-below : (a : Array) (i : ℕ) → isAgent (nodeAt a i) ≡ true → i < a .size
-unfolding nodeAt isAgent
-node-below a i e = go (decided (ltb i (a .size)))
-  where
-    go : (ltb i (a .size) ≡ true) ⊎ (ltb i (a .size) ≡ false) → i < a .size
-    go (inl q) = ltb-true i (a .size) q
-    go (inr q) = absurd (false≢true (rw q at e))
 
 agent-of : (f : ℕ → Proc) (n : Node) → isAgent n ≡ true → (g : Agent) × (agentOf f n ≡ some g)
 unfolding isAgent agentOf
@@ -115,7 +107,7 @@ module _ (a : Array) (wf : WellFormed a) (k : ℕ) (few : k ≤ 4096) (es : List
     formed-ok w e =
         let s₁ = and-split (isAgent (nodeAt a (t .agent))) (leb (t .marker) k && every (a .names) test) e in
         let s₂ = and-split (leb (t .marker) k) (every (a .names) test) (s₁ .1) in
-        let b = node-below a (t .agent) (s₁ .0) in
+        let b = agent-inside a (t .agent) (s₁ .0) in
         let g = agent-of (λ l. procAt a l) (nodeAt a (t .agent)) (s₁ .0) in
         let wfp = wf-procAt a (wf .children) (wf .named) (t .agent) b in
         record {

@@ -1,13 +1,13 @@
 -- The laws of threads and entries in lists of words: their lengths, where each stands, and that reading what was written gives it back.
-use Prim.Native.Nat.{ℕ, zero, suc, _+_, _*_, _/_, _≤_, _<_, min}
-use native.Mathlib.Nat.{zero-mul, suc-mul, mul-le-mul-right, add-comm, add-zero, zero-add, le-div-iff-mul-le}
+use Prim.Native.Nat.{ℕ, zero, suc, _+_, _*_, _/_, _≤_, _<_}
+use native.Mathlib.Nat.{zero-mul, suc-mul, mul-le-mul-right, add-comm, add-zero, le-div-iff-mul-le}
 use native.Mathlib.Numerals.{add-one}
 use native.Mathlib.Omega.{arith}
 use mathlib.Core.Path.{_≡_, refl, sym, ap, ap₂, _∙_}
 use mathlib.Core.List.{List, [], _∷_, _++_, append-assoc}
 use lib.ListN.{length, getD, take, drop, length-drop, length-append}
 use lib.Seq.{take-add, take-at, getD-take, drop-at, drop-drop, getD-drop, length-take-le}
-use Rattle.laws.specs.Lists.{All, put}
+use Rattle.laws.specs.Lists.{All}
 use Rattle.model.specs.Calculus.{Thread, Config}
 use Rattle.model.specs.Numbers.{Entry, noEntry, nobody}
 use Rattle.model.specs.Memory.{threadIn, threadsIn, threadWords, wordsOf, entryIn, entriesIn, entryNumbers, numbersOf, threadRoom, markerRoom}
@@ -22,10 +22,14 @@ slot n r k h = rw (← suc-mul r (2 + n)) (mul-le-mul-right (2 + n) h)
 pub next-slot : (n r : ℕ) → r * (2 + n) + (2 + n) ≡ (r + 1) * (2 + n)
 next-slot n r = sym (ap (λ (k : ℕ). k * (2 + n)) (add-one r) ∙ suc-mul r (2 + n))
 
--- the agent and a name's word of the thread at a place
+-- the agent, the marker and a name's word of the thread at a place
 pub agent-word : (n at : ℕ) (l : List ℕ) → threadIn n (drop at l) .agent ≡ getD l at 0
 unfolding threadIn
 agent-word n at l = getD-drop at l 0 0 ∙ ap (λ (k : ℕ). getD l k 0) (add-zero at)
+
+pub marker-word : (n at : ℕ) (l : List ℕ) → threadIn n (drop at l) .marker ≡ getD l (at + 1) 0
+unfolding threadIn
+marker-word n at l = getD-drop at l 1 0
 
 pub name-word : (n at : ℕ) (l : List ℕ) (v : ℕ) → v < n → getD (threadIn n (drop at l) .env) v 0 ≡ getD l (at + 2 + v) 0
 unfolding threadIn
@@ -158,10 +162,6 @@ pub entries-numbers : (es : List Entry) (l : List ℕ) → entriesIn (length es)
 unfolding numbersOf entriesIn entryIn
 entries-numbers [] l = refl
 entries-numbers (e ∷ es) l = ap (λ (x : List Entry). e ∷ x) (entries-numbers es l)
-
-pub put-front : {A : Type 0} (xs l : List A) → put 0 xs l ≡ xs ++ drop (length xs) l
-unfolding put
-put-front xs l = rw zero-add
 
 -- threads read from a list that is long enough have n names each
 pub threads-wide : (n k : ℕ) (l : List ℕ) → k * (2 + n) ≤ length l → Wide n (threadsIn n k l)

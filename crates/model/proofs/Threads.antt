@@ -2,13 +2,13 @@
 use Prim.Native.Nat.{ℕ, zero, suc, _+_, _*_, _≤_, _<_, max, zero-le}
 use native.Mathlib.Nat.{not-suc-le-zero, suc-inj, le-of-suc-le-suc, mul-add, add-zero, zero-add}
 use native.Mathlib.Omega.{arith}
-use mathlib.Core.Path.{_≡_, refl, sym, ap, _∙_}
+use mathlib.Core.Path.{_≡_, refl, ap, _∙_}
 use mathlib.Core.Logic.{_≢_}
 use mathlib.Core.Bool.{Bool, true, false, cond}
 use mathlib.Core.List.{List, [], _∷_, _++_}
-use lib.ListN.{length, getD, set, length-set}
+use lib.ListN.{length, getD, set, take, length-set}
 use Rattle.laws.specs.Lists.{All, one}
-use Rattle.model.specs.Tree.{Proc, stop, new, par, choice, agent, isFree, load}
+use Rattle.model.specs.Tree.{Proc, stop, new, par, choice, agent, load}
 use Rattle.model.specs.Calculus.{Notation, Choices, Thread, Config, cutFrom, unfoldProc, bind, keep}
 use Rattle.model.specs.Safe.{total, weighed, count}
 
@@ -55,6 +55,20 @@ module _ {X C : Type 0} where
       go : (b : Bool) → All P (keep (λ i. f (suc i)) c) → All P (cond b (t ∷ keep (λ i. f (suc i)) c) (keep (λ i. f (suc i)) c))
       go true k = (h .0, k)
       go false k = k
+
+  -- one thread more: it comes last where it stays
+  pub keep-next : (d : Thread X C) (f : ℕ → Bool) (c : Config X C) (i : ℕ) → i < length c
+      → keep f (take (suc i) c) ≡ keep f (take i c) ++ cond (f i) (getD c i d ∷ []) []
+  unfolding keep
+  keep-next d f [] i h = absurd (not-suc-le-zero h)
+  keep-next d f (t ∷ c) zero h = refl
+  keep-next d f (t ∷ c) (suc i) h = go (f 0) (keep-next d (λ j. f (suc j)) c i (le-of-suc-le-suc h))
+    where
+      go : (b : Bool) → keep (λ j. f (suc j)) (take (suc i) c) ≡ keep (λ j. f (suc j)) (take i c) ++ cond (f (suc i)) (getD c i d ∷ []) []
+          → cond b (t ∷ keep (λ j. f (suc j)) (take (suc i) c)) (keep (λ j. f (suc j)) (take (suc i) c))
+          ≡ cond b (t ∷ keep (λ j. f (suc j)) (take i c)) (keep (λ j. f (suc j)) (take i c)) ++ cond (f (suc i)) (getD c i d ∷ []) []
+      go true e = ap (λ (z : Config X C). t ∷ z) e
+      go false e = e
 
   module _ (w : Thread X C → ℕ) (d : Thread X C) where
     -- everything stays

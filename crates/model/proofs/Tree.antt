@@ -1,19 +1,18 @@
 -- The process tree of an array whose children lie above their parents: the law that unfolds it, and what holds at each of its nodes.
-use Prim.Native.Nat.{ℕ, zero, suc, _+_, _≤_, _<_, zero-le}
-use native.Mathlib.Nat.{not-suc-le-zero}
+use Prim.Native.Nat.{ℕ, zero, suc, _+_, _≤_, _<_}
 use native.Mathlib.Omega.{arith}
 use mathlib.Core.Path.{_≡_, refl, sym, ap, ap₂, _∙_, subst}
 use mathlib.Core.Logic.{_⊎_, inl, inr}
-use mathlib.Core.Bool.{Bool, true, false, cond, _&&_, true≢false, false≢true}
+use mathlib.Core.Bool.{Bool, true, false, true≢false, false≢true}
 use mathlib.Core.List.{List, [], _∷_, _++_}
 use mathlib.Core.Option.{Option, none, some}
 use lib.Dec.{ltb}
-use borrow.Author.Tests.{ltb-true, ltb-false, le-ltb, eq-eqb}
+use borrow.Author.Tests.{ltb-true, eq-eqb}
 use Rattle.laws.specs.Search.{clear}
 use Rattle.laws.specs.Lists.{All, all, has}
-use Rattle.laws.proofs.Search.{and-split, or-right, decided, test-clear, first-clear, true-any}
+use Rattle.laws.proofs.Search.{and-split, decided, test-clear, first-clear, true-any}
 use Rattle.laws.proofs.Lists.{all-has, has-here, has-later, All-map, all-true}
-use Rattle.model.specs.Tree.{Array, Sort, out, inp, resource, Node, nodeAt, Proc, grow, tree, procAt, Agent, asAgent, agentAt, opens, isNew}
+use Rattle.model.specs.Tree.{Array, Sort, out, inp, resource, Node, nodeAt, Proc, grow, tree, procAt, Agent, asAgent, agentAt, opens, isAgent, isNew}
 use Rattle.model.specs.Formed.{children, params, binds, sent, uses, childFits, refusal8, refusal10}
 
 -- node i's child c lies above it and below m
@@ -29,14 +28,23 @@ grow-agree i f g (Node.par l r) h = ap₂ Proc.par (h l (has-here l (r ∷ [])))
 grow-agree i f g (Node.choice l r) h = ap₂ (Proc.choice i) (h l (has-here l (r ∷ []))) (h r (has-later l (r ∷ []) r (has-here r [])))
 grow-agree i f g (Node.agent s x ys l) h = ap (Proc.agent i s x ys) (h l (has-here l []))
 
--- past the last node there is no child
-pub parent-below : (a : Array) (i c : ℕ) → has (children (nodeAt a i)) c ≡ true → i < a .size
-unfolding nodeAt children has
-parent-below a i c k = go (decided (ltb i (a .size)))
+-- past the last node there is only stop: no test that stop fails passes there
+node-inside : (a : Array) (i : ℕ) (f : Node → Bool) → f Node.stop ≡ false → f (nodeAt a i) ≡ true → i < a .size
+unfolding nodeAt
+node-inside a i f past e = go (decided (ltb i (a .size)))
   where
     go : (ltb i (a .size) ≡ true) ⊎ (ltb i (a .size) ≡ false) → i < a .size
-    go (inl e) = ltb-true i (a .size) e
-    go (inr e) = absurd (false≢true (rw e at k))
+    go (inl q) = ltb-true i (a .size) q
+    go (inr q) = absurd (false≢true (sym past ∙ (rw q at e)))
+
+-- a parent, and an agent, are below M
+pub parent-below : (a : Array) (i c : ℕ) → has (children (nodeAt a i)) c ≡ true → i < a .size
+unfolding children has
+parent-below a i c k = node-inside a i (λ v. has (children v) c) refl k
+
+pub agent-inside : (a : Array) (i : ℕ) → isAgent (nodeAt a i) ≡ true → i < a .size
+unfolding isAgent
+agent-inside a i e = node-inside a i isAgent refl e
 
 module _ (a : Array) (ok : refusal8 a ≡ clear) where
   pub child-above : (i c : ℕ) → has (children (nodeAt a i)) c ≡ true → Above (a .size) i c

@@ -2,31 +2,27 @@
 use Prim.Native.Nat.{ℕ, _+_, _*_, _≤_, _<_}
 use native.Mathlib.Omega.{arith}
 use mathlib.Core.Path.{_≡_, refl, sym, ap, ap₂, _∙_}
-use mathlib.Core.Logic.{_⊎_, ⊎-elim}
+use mathlib.Core.Logic.{⊎-elim}
 use mathlib.Core.Bool.{Bool, true, false, cond, not, _&&_, _||_, true≢false}
-use mathlib.Core.List.{List, []}
+use mathlib.Core.List.{List}
 use mathlib.Core.Option.{Option, none, some}
 use lib.Dec.{eqb, leb, ltb}
 use lib.ListN.{length, getD}
-use lib.Seq.{length-take-le, getD-take}
+use lib.Seq.{getD-take}
 use borrow.Author.Tests.{ltb-true, ltb-false, eqb-true, eqb-false, eq-eqb, ne-eqb}
 use Rattle.laws.specs.Search.{clear, under, every}
 use Rattle.laws.proofs.Search.{decided, any-same, every-same, clear-under}
 use Rattle.laws.proofs.Lists.{All-getD}
 use Rattle.marks.specs.Marks.{share, inside}
-use Rattle.model.specs.Tree.{Array, out, inp, resource, Node, nodeAt, Proc, procAt, Agent, agentAt, receives, load}
-use Rattle.model.specs.Nodes.{loadOf, agentOf}
-use Rattle.model.specs.Formed.{children, WellFormed}
+use Rattle.model.specs.Tree.{Array, inp, resource, procAt, Agent, agentAt, receives, load}
+use Rattle.model.specs.Nodes.{loadOf}
+use Rattle.model.specs.Formed.{WellFormed}
 use Rattle.model.specs.Rules.{Table, rowBits, live, shareBit, fitBoth, within, taken, loadLeft, weightGone, Verdict, onLive}
-use Rattle.model.proofs.Tree.{child-above, wf-procAt, agent-tree, AgentWf}
-use Rattle.model.proofs.Nodes.{load-at, agent-at}
+use Rattle.model.proofs.Nodes.{load-at}
 use Rattle.model.proofs.Verdict.{live-Live}
-use Rattle.laws.proofs.Lists.{has-here}
 use Rattle.records.specs.declared.Record.{Record}
 use Rattle.records.specs.declared.Trailer.{Trailer}
-use Rattle.records.specs.Record.{recordOf, argsOf, nodeOf, arrayOf}
-use Rattle.records.proofs.Laws.{by-kind, kind-above, eight-args, node-of}
-use Rattle.arrays.proofs.Laws.{arity-small}
+use Rattle.records.specs.Record.{argsOf, arrayOf}
 use Rattle.layout.specs.declared.Sizes.{Sizes}
 use Rattle.layout.specs.Table.{tableOf}
 use Rattle.arrays.specs.Agents.{sortOf, agentIn, Reads}

@@ -12,7 +12,7 @@ use Rattle.model.specs.Tree.{Array, Agent}
 use Rattle.model.specs.Rules.{Table, Broken, Verdict, at, live, within, loadLeft, weightGone, pairs}
 use Rattle.records.specs.declared.Record.{Record}
 use Rattle.records.specs.declared.Trailer.{Trailer}
-use Rattle.records.specs.Record.{recordOf, argsOf, arrayOf}
+use Rattle.records.specs.Record.{arrayOf}
 use Rattle.arrays.specs.File.{IsRead}
 use Rattle.arrays.specs.Agents.{agentIn}
 use Rattle.layout.specs.declared.Sizes.{Sizes}

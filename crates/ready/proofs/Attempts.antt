@@ -1,21 +1,28 @@
 -- Two threads that meet, and attempts: `meeting` is the refusal of the model's attempt, and the first meeting is its first ready pair.
-use Prim.Native.Nat.{ℕ, zero, suc, _≤_, _<_}
+use Prim.Native.Nat.{ℕ, _<_}
 use native.Mathlib.Omega.{arith}
-use mathlib.Core.Path.{_≡_, refl, sym, ap, ap₂, _∙_, subst}
+use mathlib.Core.Path.{_≡_, refl, sym, ap, _∙_}
 use mathlib.Core.Logic.{_≢_}
-use mathlib.Core.Bool.{Bool, true, false, cond, not, _&&_}
+use mathlib.Core.Bool.{Bool, true, false, not, _&&_}
 use mathlib.Core.List.{List, []}
 use mathlib.Core.Option.{Option, none, some}
 use lib.Dec.{eqb, ltb}
 use lib.ListN.{length, getD}
-use borrow.Author.Tests.{lt-ltb, le-ltb, ne-eqb, eq-eqb}
-use Rattle.laws.specs.Search.{Found, test, first}
+use borrow.Author.Tests.{lt-ltb, ne-eqb, eq-eqb}
+use Rattle.laws.specs.Search.{test}
 use Rattle.laws.proofs.Search.{and-join, first-same}
 use Rattle.model.specs.Tree.{Array, Agent, agentAt, receives}
 use Rattle.model.specs.Calculus.{Notation, Choices, Thread, Config, Attempt, Answer, refused, next, unless, onAgents, cell, stepped, attempt}
 use Rattle.model.specs.Numbers.{Entry, nobody}
 use Rattle.model.specs.Memory.{words, try, isNext, firstReady}
 use Rattle.ready.specs.Ready.{numberOf, meeting, firstMeeting}
+
+-- what the model checks of two agents, before a step that leaves d
+abbrev pub checked : Notation ℕ ℕ → Thread ℕ ℕ → Thread ℕ ℕ → (Agent → Agent → Config ℕ ℕ) → Agent → Agent → Answer ℕ ℕ
+checked N x y d p q =
+    unless (receives (p .sort) && not (receives (q .sort))) 25
+    (unless (eqb (length (p .args)) (length (q .args))) 26
+    (unless (N .same (cell N (x .env) (p .channel)) (cell N (y .env) (q .channel))) 27 (next (d p q))))
 
 -- ---- numbers of answers
 
@@ -80,14 +87,7 @@ module _ (a : Array) (es : List Entry) (c : Config ℕ ℕ) (u : Attempt) where
   unfolding attempt unless
   attempt-24 e = rw e
 
-  -- what is left to check of two agents, before a step that leaves d
-  abbrev checked : Notation ℕ ℕ → (Agent → Agent → Config ℕ ℕ) → Agent → Agent → Answer ℕ ℕ
-  checked N d p q =
-      unless (receives (p .sort) && not (receives (q .sort))) 25
-      (unless (eqb (length (p .args)) (length (q .args))) 26
-      (unless (N .same (cell N (R .env) (p .channel)) (cell N (S .env) (q .channel))) 27 (next (d p q))))
-
-  checked-same : (d : Agent → Agent → Config ℕ ℕ) (p q : Agent) → numberOf (checked (words es) d p q) ≡ numberOf (checked (words []) (λ p q. []) p q)
+  checked-same : (d : Agent → Agent → Config ℕ ℕ) (p q : Agent) → numberOf (checked (words es) R S d p q) ≡ numberOf (checked (words []) R S (λ p q. []) p q)
   unfolding words numberOf
   checked-same d p q =
       unless-same (receives (p .sort) && not (receives (q .sort))) 25 _ _
@@ -100,9 +100,9 @@ module _ (a : Array) (es : List Entry) (c : Config ℕ ℕ) (u : Attempt) where
   attempt-number hr hs =
       ap numberOf
       (unless-pass (ltb (u .receiver) (length c) && ltb (u .sender) (length c)) 24
-      (onAgents (agentAt a (R .agent)) (agentAt a (S .agent)) (checked (words es) (stepped (words es) c u)))
+      (onAgents (agentAt a (R .agent)) (agentAt a (S .agent)) (checked (words es) R S (stepped (words es) c u)))
       (and-join (lt-ltb (u .receiver) (length c) hr) (lt-ltb (u .sender) (length c) hs)))
-      ∙ onAgents-same (agentAt a (R .agent)) (agentAt a (S .agent)) (checked (words es) (stepped (words es) c u)) (checked (words []) (λ p q. []))
+      ∙ onAgents-same (agentAt a (R .agent)) (agentAt a (S .agent)) (checked (words es) R S (stepped (words es) c u)) (checked (words []) R S (λ p q. []))
       (checked-same (stepped (words es) c u))
 
   pub attempt-made : u .receiver < length c → u .sender < length c → meeting a R S ≡ 0 → (d : Config ℕ ℕ) × (attempt (words es) a c u ≡ next d)

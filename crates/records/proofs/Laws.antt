@@ -1,10 +1,10 @@
 -- What is known of a record that was read, and of the array that the records stand for.
-use Prim.Native.Nat.{ℕ, zero, suc, _+_, _*_, _≤_, _<_}
-use native.Mathlib.Nat.{add-suc}
+use Prim.Native.Nat.{ℕ, zero, suc, _+_, _≤_, _<_}
+use native.Mathlib.Nat.{add-suc, eq-or-lt-of-le}
 use native.Mathlib.Omega.{arith}
 use mathlib.Core.Path.{_≡_, refl, sym, ap, _∙_}
-use mathlib.Core.Logic.{_⊎_, ⊎-elim}
-use mathlib.Core.Bool.{true, false, cond, false≢true}
+use mathlib.Core.Logic.{⊎-elim}
+use mathlib.Core.Bool.{Bool, true, false, _&&_, _||_, or-false}
 use mathlib.Core.List.{List, [], _∷_}
 use lib.Dec.{eqb, leb, ltb}
 use lib.ListN.{length, getD, take, drop, length-drop, length-map}
@@ -12,9 +12,13 @@ use lib.Seq.{drop-cons, length-take-le}
 use mir.Val.{Val}
 use denote.Laws.{Is}
 use denote.Struct.Declared.{row}
-use borrow.Author.Tests.{ltb-true, ltb-false, lt-ltb, le-ltb, le-leb, ne-eqb}
-use Rattle.laws.proofs.Search.{decided}
+use borrow.Author.Tests.{lt-ltb, le-ltb, le-leb, eq-eqb, ne-eqb}
+use Rattle.laws.specs.Search.{clear}
+use Rattle.laws.specs.Lists.{has}
+use Rattle.laws.proofs.Search.{and-join, or-left, or-right}
 use Rattle.model.specs.Tree.{Array, Node, out, inp, resource, nodeAt, isAgent}
+use Rattle.model.specs.Formed.{children, refusal8}
+use Rattle.model.proofs.Tree.{child-above}
 use Rattle.records.specs.declared.Record.{Record}
 use Rattle.records.specs.declared.Trailer.{Trailer}
 use Rattle.records.specs.Record.{recordAt, recordOf, argsOf, nodeOf, arrayOf}
@@ -80,6 +84,40 @@ pub node-of : (s : List ℕ) (t : Trailer) (i : ℕ) → i < t .nodes → nodeAt
 unfolding nodeAt
 node-of s t i h = rw (lt-ltb i (t .nodes) h)
 
+-- ---- children, by the record's kind
+
+module _ (r : Record) where
+  pub children-of : (c : ℕ) → has (children (nodeOf r)) c ≡ (ltb 0 (r .kind) && eqb c (r .left)) || ((eqb (r .kind) 2 || eqb (r .kind) 3) && eqb c (r .right))
+  unfolding children has
+  children-of c =
+      by-kind r (λ k n. has (children n) c ≡ (ltb 0 k && eqb c (r .left)) || ((eqb k 2 || eqb k 3) && eqb c (r .right)))
+      refl refl two two refl refl
+      (λ k h. rw (lt-ltb 0 k (omega arith), kind-above k 2 h (omega arith), kind-above k 3 h (omega arith)))
+    where
+      two : eqb c (r .left) || (eqb c (r .right) || false) ≡ eqb c (r .left) || eqb c (r .right)
+      two = ap (λ (b : Bool). eqb c (r .left) || b) (or-false _)
+
+  pub left-child : 0 < r .kind → has (children (nodeOf r)) (r .left) ≡ true
+  left-child h = children-of (r .left) ∙ or-left _ _ (and-join (lt-ltb 0 (r .kind) h) (eq-eqb (r .left) (r .left) refl))
+
+  pub right-child : eqb (r .kind) 2 || eqb (r .kind) 3 ≡ true → has (children (nodeOf r)) (r .right) ≡ true
+  right-child e =
+      children-of (r .right) ∙ or-right (ltb 0 (r .kind) && eqb (r .right) (r .left)) _ (and-join e (eq-eqb (r .right) (r .right) refl))
+
+-- a kind between 1 and 4 has two children
+pub right-kind : (k : ℕ) → 1 < k → k < 4 → eqb k 2 || eqb k 3 ≡ true
+right-kind k h l =
+    ⊎-elim (λ (e : 2 ≡ k). let q : k ≡ 2 = sym e in rw q) (λ (m : 2 < k). let q : k ≡ 3 = omega arith in rw q) (eq-or-lt-of-le h)
+
+-- ---- node i, whose record was read
+
+module _ (s : List ℕ) (t : Trailer) (i : ℕ) (r : Record) (h : i < t .nodes) (e : r ≡ recordOf s t i) where
+  pub node-read : nodeAt (arrayOf s t) i ≡ nodeOf r
+  node-read = node-of s t i h ∙ ap nodeOf (sym e)
+
+  pub child-of : refusal8 (arrayOf s t) ≡ clear → (c : ℕ) → has (children (nodeOf r)) c ≡ true → (i < c) × (c < t .nodes)
+  child-of ok c k = child-above (arrayOf s t) ok i c (rw node-read k)
+
 -- ---- agents: a node below M is one where its record's kind says so, and past M there is none
 
 pub agent-kind : (r : Record) → leb 4 (r .kind) ≡ isAgent (nodeOf r)
@@ -92,8 +130,3 @@ agent-below s t i h = agent-kind (recordOf s t i) ∙ ap isAgent (sym (node-of s
 pub agent-past : (a : Array) (i : ℕ) → a .size ≤ i → false ≡ isAgent (nodeAt a i)
 unfolding nodeAt isAgent
 agent-past a i h = rw (le-ltb i (a .size) h)
-
-pub agent-inside : (a : Array) (i : ℕ) → isAgent (nodeAt a i) ≡ true → i < a .size
-agent-inside a i e =
-    ⊎-elim (λ (l : ltb i (a .size) ≡ true). ltb-true i (a .size) l) (λ (l : ltb i (a .size) ≡ false). absurd (false≢true (agent-past a i (ltb-false i (a .size) l) ∙ e)))
-    (decided (ltb i (a .size)))

@@ -1,25 +1,23 @@
 -- The tests of rules 1, 2 and 5 by the checker's own lists, searched in order, are the model's searches.
-use Prim.Native.Nat.{ℕ, _+_, _*_, _≤_, _<_}
+use Prim.Native.Nat.{ℕ, _+_, _*_, _<_}
 use native.Mathlib.Nat.{zero-add}
 use native.Mathlib.Numerals.{add-one}
 use native.Mathlib.Omega.{arith}
 use mathlib.Core.Path.{_≡_, refl, sym, ap, ap₂, _∙_}
-use mathlib.Core.Logic.{⊎-elim}
 use mathlib.Core.Bool.{Bool, true, false, not, _||_, false≢true, true≢false}
 use mathlib.Core.List.{List, [], _∷_}
 use lib.Dec.{leb, ltb}
 use lib.ListN.{getD}
 use borrow.Author.Tests.{ltb-true, leb-true}
 use Rattle.laws.specs.Search.{clear, hit, test, andThen, first}
-use Rattle.laws.proofs.Search.{decided, and-split, test-clear, clear-test, hit-test, first-pass, first-here, first-clear, first-same, clear-andThen, hit-andThen}
-use Rattle.wire.specs.Numbers.{u16At}
+use Rattle.laws.proofs.Search.{and-split, test-clear, clear-test, hit-test, first-pass, first-here, first-clear, first-same, clear-andThen, hit-andThen}
 use Rattle.marks.specs.Marks.{marked}
 use Rattle.model.specs.Tree.{Array, nodeAt, isAgent, isNew}
 use Rattle.model.specs.Rules.{Table, Broken, Verdict, at, check1, check2, arguments3, check3, balances4, check4, check5, balanceOf, claimWeight}
-use Rattle.records.specs.declared.Record.{Record}
+use Rattle.model.proofs.Tree.{agent-inside}
 use Rattle.records.specs.declared.Trailer.{Trailer}
-use Rattle.records.specs.Record.{recordOf, nodeOf, arrayOf}
-use Rattle.records.proofs.Laws.{agent-kind, agent-inside, node-of}
+use Rattle.records.specs.Record.{recordOf, arrayOf}
+use Rattle.records.proofs.Laws.{agent-kind, node-of}
 use Rattle.layout.specs.declared.Sizes.{Sizes}
 use Rattle.layout.specs.Table.{claimAt, tableOf, refusal21}
 use Rattle.pairs.specs.declared.Pair.the-variants.{At}

@@ -2,32 +2,22 @@
 use Prim.Native.Nat.{ℕ}
 use native.Mathlib.Omega.{arith}
 use mathlib.Core.Path.{_≡_, refl, sym, ap, _∙_}
-use mathlib.Core.Bool.{Bool, false, cond, _&&_, _||_, or-false, and-assoc}
+use mathlib.Core.Bool.{Bool, cond, _&&_, _||_, and-assoc}
 use mathlib.Core.List.{[], _∷_}
 use lib.Dec.{eqb, leb, ltb}
 use lib.ListN.{length, getD}
-use borrow.Author.Tests.{lt-ltb, le-ltb, le-leb}
+use borrow.Author.Tests.{le-ltb, le-leb}
 use Rattle.laws.specs.Search.{any}
 use Rattle.laws.specs.Lists.{has}
 use Rattle.laws.proofs.Search.{any-same, any-under}
 use Rattle.laws.proofs.Lists.{has-take}
-use Rattle.model.specs.Formed.{children, params, binds, sent, uses}
+use Rattle.model.specs.Formed.{params, binds, sent, uses}
 use Rattle.records.specs.declared.Record.{Record}
 use Rattle.records.specs.Record.{argsOf, nodeOf}
 use Rattle.records.proofs.Laws.{by-kind, kind-above}
 use Rattle.scopes.specs.Scope.{isParam}
 
 module _ (r : Record) where
-  pub children-of : (c : ℕ) → has (children (nodeOf r)) c ≡ (ltb 0 (r .kind) && eqb c (r .left)) || ((eqb (r .kind) 2 || eqb (r .kind) 3) && eqb c (r .right))
-  unfolding children has
-  children-of c =
-      by-kind r (λ k n. has (children n) c ≡ (ltb 0 k && eqb c (r .left)) || ((eqb k 2 || eqb k 3) && eqb c (r .right)))
-      refl refl two two refl refl
-      (λ k h. rw (lt-ltb 0 k (omega arith), kind-above k 2 h (omega arith), kind-above k 3 h (omega arith)))
-    where
-      two : eqb c (r .left) || (eqb c (r .right) || false) ≡ eqb c (r .left) || eqb c (r .right)
-      two = ap (λ (b : Bool). eqb c (r .left) || b) (or-false _)
-
   pub binds-of : (v : ℕ) → has (binds (nodeOf r)) v ≡ (eqb (r .kind) 1 && eqb v (r .name)) || isParam r v
   unfolding binds params has
   binds-of v =

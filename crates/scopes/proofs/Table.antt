@@ -11,11 +11,11 @@ use lib.Bits.{bitOr}
 use lib.Dec.{eqb, ltb}
 use lib.ListN.{length, getD, drop, set, replicate, length-set}
 use lib.Seq.{getD-set-same, getD-set-other}
-use borrow.Author.Tests.{eqb-true, eqb-false, eq-eqb, ne-eqb}
+use borrow.Author.Tests.{ltb-true, eqb-true, eqb-false, ne-eqb}
 use Rattle.laws.specs.Search.{clear}
 use Rattle.laws.specs.Lists.{All, all, has}
 use Rattle.laws.specs.Bits.{bit}
-use Rattle.laws.proofs.Search.{decided, and-join, or-right}
+use Rattle.laws.proofs.Search.{decided}
 use Rattle.laws.proofs.Lists.{All-drop, All-take, getD-All, all-same}
 use Rattle.laws.proofs.Bits.{bit-or}
 use Rattle.model.specs.Tree.{Array, nodeAt}
@@ -23,13 +23,13 @@ use Rattle.model.specs.Formed.{children, binds, uses, inReach, refusal8, refusa
 use Rattle.records.specs.declared.Record.{Record}
 use Rattle.records.specs.declared.Trailer.{Trailer}
 use Rattle.records.specs.Record.{argsOf, recordOf, nodeOf, arrayOf}
-use Rattle.records.proofs.Laws.{node-of}
+use Rattle.records.proofs.Laws.{children-of, left-child, right-child, node-read}
 use Rattle.model.proofs.Tree.{child-above}
 use Rattle.model.proofs.Reach.{parent, reach-root, reach-child}
 use Rattle.marks.specs.Marks.{marked}
 use Rattle.marks.proofs.Laws.{marked-none}
 use Rattle.scopes.specs.Scope.{passed, passIf, HandedDown}
-use Rattle.scopes.proofs.Laws.{children-of, uses-of}
+use Rattle.scopes.proofs.Laws.{uses-of}
 
 -- ---- rows passed down
 
@@ -121,12 +121,10 @@ marked-twice table p q j l r bound fl fr i v h =
 
 module _ (table : List ℕ) (j : ℕ) (r : Record) (fits : (c : ℕ) → has (children (nodeOf r)) c ≡ true → (j < c) × (4 * c + 3 < length table)) where
   pub left-fits : ltb 0 (r .kind) ≡ true → (j < r .left) × (4 * r .left + 3 < length table)
-  left-fits e = fits (r .left) (children-of r (r .left) ∙ rw (e, eq-eqb (r .left) (r .left) refl))
+  left-fits e = fits (r .left) (left-child r (ltb-true 0 (r .kind) e))
 
   pub right-fits : eqb (r .kind) 2 || eqb (r .kind) 3 ≡ true → (j < r .right) × (4 * r .right + 3 < length table)
-  right-fits e =
-      let here = and-join e (eq-eqb (r .right) (r .right) refl) in
-      fits (r .right) (children-of r (r .right) ∙ or-right (ltb 0 (r .kind) && eqb (r .right) (r .left)) _ here)
+  right-fits e = fits (r .right) (right-child r e)
 
   -- the two children that there may be
   pub handed-down : (bound : List ℕ) → ((v : ℕ) → v < 256 → marked bound 0 v ≡ has (binds (nodeOf r)) v)
@@ -171,10 +169,6 @@ module _ (a : Array) (fit : refusal8 a ≡ clear) (once : refusal9 a ≡ clear) 
   filled-all table j l filled i v h k = filled i v h k (λ p q. let f = child-above a fit p i q in omega arith)
 
 -- ---- the test of refusal 12 by the table
-
--- the node at a number below M is what its record, once read, stands for
-pub node-read : (s : List ℕ) (t : Trailer) (i : ℕ) (r : Record) → i < t .nodes → r ≡ recordOf s t i → nodeAt (arrayOf s t) i ≡ nodeOf r
-node-read s t i r h e = node-of s t i h ∙ ap nodeOf (sym e)
 
 module _ (s : List ℕ) (t : Trailer) (bytes : (k : ℕ) → getD s k 0 < 256) where
   uses-bytes : (i : ℕ) → All (λ v. v < 256) (uses (nodeOf (recordOf s t i)))

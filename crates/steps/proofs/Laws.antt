@@ -14,7 +14,7 @@ use borrow.Author.Tests.{eqb-true, eqb-false, eq-eqb, ne-eqb, leb-true, leb-fals
 use Rattle.laws.specs.Lists.{All, put}
 use Rattle.laws.proofs.Search.{decided}
 use Rattle.laws.proofs.Lists.{All-getD}
-use Rattle.laws.proofs.Put.{put-from}
+use Rattle.laws.proofs.Put.{put-from, put-same}
 use Rattle.model.specs.Tree.{Array, Sort, out, inp, resource, Agent, agentAt, receives}
 use Rattle.model.specs.Calculus.{Choices, Thread, Config, Attempt, Answer, next, bind, keep, cutFrom, unfoldProc, stays, choicesOf, markerOf, receiverLeaves, senderLeaves, stepped, attempt}
 use Rattle.model.specs.Numbers.{Entry, position, extend, listAfter, nobody, markersAfter}
@@ -35,7 +35,6 @@ use Rattle.arrays.proofs.Agents.{receives-kind, agent-is, no-agent, small-kind,
 use Rattle.unfolds.specs.Unfold.{unfolded}
 use Rattle.unfolds.proofs.Laws.{length-unfolded, words-unfolded}
 use Rattle.threads.specs.Threads.{remains}
-use Rattle.threads.proofs.Moves.{put-same}
 use Rattle.ready.specs.Ready.{meeting}
 use Rattle.ready.proofs.Attempts.{attempt-made}
 use Rattle.steps.proofs.Advanced.{place}

@@ -1,35 +1,25 @@
 -- Parameters bound from the last to the first, and threads that are well formed.
-use Prim.Native.Nat.{ℕ, suc, _+_, _*_, _/_, _%_, _≤_, _<_}
+use Prim.Native.Nat.{ℕ, suc, _+_, _*_, _≤_, _<_}
 use native.Mathlib.Omega.{arith}
-use mathlib.Core.Path.{_≡_, refl, sym, ap, ap₂, _∙_, subst}
-use mathlib.Core.Logic.{⊎-elim}
-use mathlib.Core.Bool.{Bool, true, false, not, _&&_, true≢false}
+use mathlib.Core.Path.{_≡_, refl, sym, ap, ap₂, _∙_}
+use mathlib.Core.Bool.{Bool, true, false, not, _&&_}
 use mathlib.Core.List.{List, [], map}
 use lib.Dec.{eqb, leb}
-use lib.ListN.{length, getD, set, take, drop, length-map, drop-of-length-le, List·getD-eq-default}
-use lib.Seq.{drop-cons, getD-take, getD-drop, length-take-le}
+use lib.ListN.{length, getD, set, take, drop, length-map, drop-of-length-le}
+use lib.Seq.{drop-cons, getD-take, length-take-le}
 use borrow.Author.Tests.{le-leb, lt-leb}
 use Rattle.laws.specs.Search.{every}
-use Rattle.laws.specs.Lists.{All}
-use Rattle.laws.specs.Bits.{bit}
-use Rattle.laws.proofs.Search.{decided, and-join, every-step, every-true, every-same}
-use Rattle.laws.proofs.Lists.{All-getD, getD-map}
-use Rattle.laws.proofs.Bits.{bit-zero}
+use Rattle.laws.proofs.Search.{every-same}
+use Rattle.laws.proofs.Lists.{getD-map}
 use Rattle.marks.specs.Marks.{marked}
 use Rattle.model.specs.Tree.{Array, nodeAt, isAgent, isNew, procAt, isFree}
 use Rattle.model.specs.Calculus.{bind}
 use Rattle.model.specs.Memory.{newIn, markerIn, threadIn, wordFormed, threadFormed}
-use Rattle.model.proofs.Memory.{agent-word, name-word}
+use Rattle.model.proofs.Memory.{agent-word, marker-word, name-word}
 use Rattle.frees.specs.Frees.{AllFree}
 use Rattle.threads.specs.Threads.{wordOk}
 
 -- ---- parameters
-
--- one of the first n numbers of a list
-pub one-below : (m n : ℕ) (xs : List ℕ) (k : ℕ) → All (λ y. y < m) (take n xs) → k < n → n ≤ length xs → getD xs k 0 < m
-one-below m n xs k h l room =
-    let e = length-take-le n xs room in
-    subst (λ (y : ℕ). y < m) (getD-take n xs k 0 l) (All-getD (λ y. y < m) (take n xs) k 0 h (omega arith))
 
 -- what is bound from parameter k on: the first n of `params` take what `sent` has for the first n of `args`
 abbrev pub boundFrom : ℕ → ℕ → List ℕ → List ℕ → List ℕ → List ℕ → List ℕ
@@ -58,23 +48,7 @@ bound-turn k n params args sent env h hp ha =
     ap₂ (λ (a b : List ℕ). bind a b env) (drop-cons ys k 0 (omega arith)) (drop-cons cs k 0 (omega arith))
     ∙ ap₂ (λ (y x : ℕ). set (bind (drop (suc k) ys) (drop (suc k) cs) env) y x) (getD-take n params k 0 h) c
 
--- ---- searches
-
-pub every-more : (f : ℕ → Bool) (n : ℕ) → every n f ≡ true → f n ≡ true → every (n + 1) f ≡ true
-every-more f n e h = every-step f n ∙ and-join e h
-
-pub every-fails : (n : ℕ) (f : ℕ → Bool) (j : ℕ) → j < n → f j ≡ false → every n f ≡ false
-every-fails n f j h e =
-    ⊎-elim (λ (q : every n f ≡ true). absurd (true≢false (sym (every-true n f q j h) ∙ e))) (λ (q : every n f ≡ false). q) (decided (every n f))
-
 -- ---- well formed
-
--- a row of four words has no mark at 256 or above
-pub marked-past : (row : List ℕ) (o : ℕ) → length row ≡ 4 → 256 ≤ o → marked row 0 o ≡ false
-unfolding marked
-marked-past row o e h =
-    let l : length row ≤ 0 + o / 64 = omega arith in
-    ap (λ (x : ℕ). bit x (o % 64)) (List·getD-eq-default row 0 l) ∙ bit-zero (o % 64)
 
 word-same : (a : Array) (news : ℕ → Bool) (k : ℕ) (free : Bool) (x : ℕ) → ((o : ℕ) → news o ≡ isNew a o) → wordOk news k free x ≡ wordFormed a k free x
 unfolding wordOk wordFormed
@@ -87,16 +61,12 @@ module _ (a : Array) (k at : ℕ) (l : List ℕ) (i : ℕ) (here : i ≡ getD l 
   abbrev namesTest : Bool
   namesTest = every (a .names) (λ v. wordFormed a k (isFree (procAt a i) v) (getD l (at + 2 + v) 0))
 
-  marker-word : threadIn (a .names) (drop at l) .marker ≡ getD l (at + 1) 0
-  unfolding threadIn
-  marker-word = getD-drop at l 1 0
-
   by-words : threadFormed a k (threadIn (a .names) (drop at l)) ≡ isAgent (nodeAt a i) && (leb (getD l (at + 1) 0) k && namesTest)
   unfolding threadFormed
   by-words =
       let it = threadIn (a .names) (drop at l) in
       let n : it .agent ≡ i = agent-word (a .names) at l ∙ sym here in
-      ap₂ (λ (j x : ℕ). isAgent (nodeAt a j) && (leb x k && every (a .names) (λ v. wordFormed a k (isFree (procAt a j) v) (getD (it .env) v 0)))) n marker-word
+      ap₂ (λ (j x : ℕ). isAgent (nodeAt a j) && (leb x k && every (a .names) (λ v. wordFormed a k (isFree (procAt a j) v) (getD (it .env) v 0)))) n (marker-word (a .names) at l)
       ∙ ap (λ (b : Bool). isAgent (nodeAt a i) && (leb (getD l (at + 1) 0) k && b))
       (every-same (a .names) _ _ (λ v h. ap (λ (x : ℕ). wordFormed a k (isFree (procAt a i) v) x) (name-word (a .names) at l v h)))
 

@@ -1,33 +1,22 @@
 -- Words moved within a list: what a turn of `move_down`, of `copy_words` and of `keep_threads` leaves.
-use Prim.Native.Nat.{ℕ, zero, suc, _+_, _*_, _-_, _≤_, _<_, zero-le}
-use native.Mathlib.Nat.{not-suc-le-zero, le-of-suc-le-suc}
+use Prim.Native.Nat.{ℕ, _+_, _*_, _-_, _≤_, _<_, zero-le}
 use native.Mathlib.Numerals.{add-one}
 use native.Mathlib.Omega.{arith}
 use mathlib.Core.Path.{_≡_, refl, sym, ap, ap₂, _∙_}
 use mathlib.Core.Bool.{Bool, true, false, cond}
 use mathlib.Core.List.{List, [], _∷_, _++_, append-nil}
-use lib.ListN.{length, getD, set, take, drop, length-append, length-drop, take-append-drop}
-use lib.Seq.{take-suc, getD-drop, drop-drop, length-take-le, take-all}
+use lib.ListN.{length, getD, set, take, drop, length-append, length-drop}
+use lib.Seq.{take-all}
 use Rattle.laws.specs.Lists.{put}
-use Rattle.laws.proofs.Put.{set-put, getD-put, drop-put, put-put, put-all}
+use Rattle.laws.proofs.Put.{part-length, part-next, set-put, getD-put, drop-past, put-put, put-all}
 use Rattle.model.specs.Calculus.{Config, keep}
 use Rattle.model.specs.Numbers.{nobody}
 use Rattle.model.specs.Memory.{threadsIn, threadWords, wordsOf}
+use Rattle.model.proofs.Threads.{keep-next}
 use Rattle.model.proofs.Memory.{slot, threads-at, thread-words, words-append, length-threads}
 use Rattle.threads.specs.Threads.{wordsIf}
 
 -- ---- words one by one
-
-module _ (l : List ℕ) (from : ℕ) where
-  part-length : (j : ℕ) → from + j ≤ length l → length (take j (drop from l)) ≡ j
-  part-length j h = length-take-le j (drop from l) (rw length-drop (omega arith))
-
-  -- one word more of those taken
-  part-next : (j : ℕ) → from + j < length l → take j (drop from l) ++ (getD l (from + j) 0 ∷ []) ≡ take (j + 1) (drop from l)
-  part-next j h =
-      let inside : j < length (drop from l) = rw length-drop (omega arith) in
-      ap (λ (x : ℕ). take j (drop from l) ++ (x ∷ [])) (sym (getD-drop from l j 0))
-      ∙ sym (take-suc (drop from l) j 0 inside) ∙ ap (λ (k : ℕ). take k (drop from l)) (sym (add-one j))
 
 -- a turn of `move_down`: the word read was not written yet
 pub moved : (l : List ℕ) (from to j : ℕ) → to ≤ from → from + j < length l
@@ -41,7 +30,7 @@ moved l from to j down h =
     ap (λ (k : ℕ). getD (put to xs l) k 0) far ∙ getD-put to xs l room (from - to) 0 ∙ ap (λ (k : ℕ). getD l k 0) (sym far) in
     ap₂ (λ (k v : ℕ). set (put to xs l) (to + k) v) (sym n) read
     ∙ set-put to xs l room (getD l (from + j) 0) (omega arith)
-    ∙ ap (λ (t : List ℕ). put to t l) (part-next l from j h)
+    ∙ ap (λ (t : List ℕ). put to t l) (part-next l from j 0 h)
 
 -- a turn of `copy_words`, and its end
 pub copied : (src l : List ℕ) (from j : ℕ) → from + length l ≤ length src → j < length l
@@ -52,7 +41,7 @@ copied src l from j h k =
     let at : j ≡ 0 + length xs = omega arith in
     ap (λ (i : ℕ). set (put 0 xs l) i (getD src (from + j) 0)) at
     ∙ set-put 0 xs l (omega arith) (getD src (from + j) 0) (omega arith)
-    ∙ ap (λ (t : List ℕ). put 0 t l) (part-next src from j (omega arith))
+    ∙ ap (λ (t : List ℕ). put 0 t l) (part-next src from j 0 (omega arith))
 
 pub copied-all : (src l : List ℕ) (from : ℕ) → from + length l ≤ length src → put 0 (take (length l) (drop from src)) l ≡ take (length l) (drop from src)
 copied-all src l from h =
@@ -61,45 +50,9 @@ copied-all src l from h =
 
 -- ---- threads that stay
 
--- what stands past the words written
-drop-past : (xs l : List ℕ) (k : ℕ) → length xs ≤ k → length xs ≤ length l → drop k (put 0 xs l) ≡ drop k l
-drop-past xs l k h room =
-    let e : k ≡ (0 + length xs) + (k - length xs) = omega arith in
-    ap (λ (j : ℕ). drop j (put 0 xs l)) e
-    ∙ sym (drop-drop (k - length xs) (0 + length xs) (put 0 xs l))
-    ∙ ap (drop (k - length xs)) (drop-put 0 xs l (omega arith))
-    ∙ drop-drop (k - length xs) (0 + length xs) l
-    ∙ ap (λ (j : ℕ). drop j l) (sym e)
-
--- words written where they stand already
-pub put-same : (at w : ℕ) (l : List ℕ) → at + w ≤ length l → put at (take w (drop at l)) l ≡ l
-unfolding put
-put-same at w l h =
-    let n : length (take w (drop at l)) ≡ w = part-length l at w h in
-    ap (λ (k : ℕ). take at l ++ (take w (drop at l) ++ drop (at + k) l)) n
-    ∙ ap (λ (t : List ℕ). take at l ++ (take w (drop at l) ++ t)) (sym (drop-drop w at l))
-    ∙ ap (λ (t : List ℕ). take at l ++ t) (take-append-drop w (drop at l))
-    ∙ take-append-drop at l
-
-pub stays-length : (from w : ℕ) (l : List ℕ) → from + w ≤ length l → length (wordsIf true from w l) ≡ w
-stays-length from w l h = part-length l from w h
-
 pub if-length : (b : Bool) (from w : ℕ) (l : List ℕ) → from + w ≤ length l → length (wordsIf b from w l) ≤ w
 if-length true from w l h = let e = part-length l from w h in omega arith
 if-length false from w l h = zero-le
-
--- one thread more: it comes last where it stays
-keep-next : (f : ℕ → Bool) (c : Config ℕ ℕ) (i : ℕ) → i < length c → keep f (take (suc i) c) ≡ keep f (take i c) ++ cond (f i) (getD c i nobody ∷ []) []
-unfolding keep
-keep-next f [] i h = absurd (not-suc-le-zero h)
-keep-next f (t ∷ c) zero h = refl
-keep-next f (t ∷ c) (suc i) h = go (f 0) (keep-next (λ j. f (suc j)) c i (le-of-suc-le-suc h))
-  where
-    go : (b : Bool) → keep (λ j. f (suc j)) (take (suc i) c) ≡ keep (λ j. f (suc j)) (take i c) ++ cond (f (suc i)) (getD c i nobody ∷ []) []
-        → cond b (t ∷ keep (λ j. f (suc j)) (take (suc i) c)) (keep (λ j. f (suc j)) (take (suc i) c))
-        ≡ cond b (t ∷ keep (λ j. f (suc j)) (take i c)) (keep (λ j. f (suc j)) (take i c)) ++ cond (f (suc i)) (getD c i nobody ∷ []) []
-    go true e = ap (λ (d : Config ℕ ℕ). t ∷ d) e
-    go false e = e
 
 module _ (n count : ℕ) (l : List ℕ) (f : ℕ → Bool) where
   -- the words of those of the first i threads that stay
@@ -131,7 +84,7 @@ module _ (n count : ℕ) (l : List ℕ) (f : ℕ → Bool) where
     kept-next =
         let e = length-threads n count l in
         ap kept (add-one i)
-        ∙ ap wordsOf (keep-next f (threadsIn n count l) i (omega arith))
+        ∙ ap wordsOf (keep-next nobody f (threadsIn n count l) i (omega arith))
         ∙ words-append (keep f (take i (threadsIn n count l))) (cond (f i) (getD (threadsIn n count l) i nobody ∷ []) [])
         ∙ ap (λ (t : List ℕ). kept i ++ t) (words-if (f i))
 
@@ -143,7 +96,7 @@ module _ (n count : ℕ) (l : List ℕ) (f : ℕ → Bool) where
         let ys = wordsIf (f i) (i * (2 + n)) (2 + n) l in
         let at : to ≡ 0 + length (kept i) = omega arith in
         let past : drop from m ≡ drop (i * (2 + n)) l =
-        ap (drop from) em ∙ drop-past (kept i) l from (omega arith) (omega arith) ∙ ap (λ (k : ℕ). drop k l) efrom in
+        ap (drop from) em ∙ drop-past 0 (kept i) l (omega arith) from (omega arith) ∙ ap (λ (k : ℕ). drop k l) efrom in
         let same : wordsIf (f i) from (2 + n) m ≡ ys = ap (λ (t : List ℕ). cond (f i) (take (2 + n) t) []) past in (
           ap (λ (t : List ℕ). put to t m) same
               ∙ ap₂ (λ (k : ℕ) (t : List ℕ). put k ys t) at em

@@ -1,33 +1,31 @@
 -- Unfolding node by node: what each kind of record unfolds to, how many threads and words that is, and how the words are laid in place.
 use Prim.Native.Nat.{ℕ, suc, _+_, _*_, _≤_, _<_}
-use native.Mathlib.Nat.{add-zero, add-assoc, zero-mul, one-mul, add-mul}
+use native.Mathlib.Nat.{add-zero, add-assoc, one-mul}
 use native.Mathlib.Numerals.{add-one}
 use native.Mathlib.Omega.{arith}
-use mathlib.Core.Path.{_≡_, refl, sym, ap, ap₂, _∙_}
+use mathlib.Core.Path.{_≡_, refl, sym, ap, ap₂, _∙_, subst}
 use mathlib.Core.Bool.{Bool, true, false, cond}
 use mathlib.Core.List.{List, [], _∷_, _++_, append-nil}
 use lib.ListN.{length, getD, set, take, length-append, length-set}
 use lib.Seq.{take-suc, set-set, set-getD, length-take-le}
-use lib.Dec.{ltb}
-use borrow.Author.Tests.{ltb-true}
-use Rattle.laws.specs.Lists.{put, has, all}
-use Rattle.laws.proofs.Search.{and-split}
-use Rattle.laws.proofs.Lists.{has-here, has-later}
+use Rattle.laws.specs.Lists.{put}
+use Rattle.laws.proofs.Lists.{All-append}
 use Rattle.laws.proofs.Put.{put-nil, put-put, set-put, set-as-put}
 use Rattle.marks.specs.Marks.{marked}
 use Rattle.model.specs.Tree.{Node, nodeAt, Proc, grow, procAt, isFree}
-use Rattle.model.specs.Formed.{children, binds}
 use Rattle.model.specs.Calculus.{Notation, Choices, Config, choicesOf, cutFrom, unfoldProc}
 use Rattle.model.specs.Numbers.{Entry}
 use Rattle.model.specs.Memory.{words, wordsOf, opening}
-use Rattle.model.proofs.Tree.{child-above, procAt-grow, names-below}
+use Rattle.model.proofs.Tree.{procAt-grow}
 use Rattle.model.proofs.Threads.{length-cut}
-use Rattle.model.proofs.Memory.{words-append}
+use Rattle.model.proofs.Memory.{words-append, Wide, length-words}
 use Rattle.records.specs.declared.Record.{Record}
 use Rattle.records.specs.declared.Trailer.{Trailer}
-use Rattle.records.specs.Record.{recordOf, nodeOf, arrayOf}
-use Rattle.records.proofs.Laws.{by-kind, node-of}
+use Rattle.records.specs.Record.{nodeOf, arrayOf}
+use Rattle.records.proofs.Laws.{by-kind}
 use Rattle.arrays.specs.File.{IsRead}
+use Rattle.arrays.specs.Agents.{Reads}
+use Rattle.arrays.proofs.Agents.{node-is}
 use Rattle.frees.specs.Frees.{AllFree}
 use Rattle.unfolds.specs.Unfold.{unfolded, Laid}
 
@@ -52,33 +50,22 @@ module _ {X C Y D : Type 0} (N : Notation X C) (O : Notation Y D) (ch : Choices)
       pick false g h = g
   length-unfold m e k f (Proc.agent i s x ys p) = refl
 
--- each thread takes two words and one for each name
+-- each thread has as many names as the environment
 module _ (N : Notation ℕ ℕ) (ch : Choices) (m : ℕ) where
-  abbrev AsLong : ℕ → Config ℕ ℕ → Type 0
-  AsLong n c = length (wordsOf c) ≡ length c * (2 + n)
-
-  words-proc : (e : List ℕ) (p : Proc) → AsLong (length e) (unfoldProc N ch m e p)
-  unfolding unfoldProc wordsOf
-  words-proc e Proc.stop = sym (zero-mul (2 + length e))
-  words-proc e (Proc.new n p) =
+  wide-unfold : (e : List ℕ) (p : Proc) → Wide (length e) (unfoldProc N ch m e p)
+  unfolding unfoldProc
+  wide-unfold e Proc.stop = tt
+  wide-unfold e (Proc.new n p) =
       let d = set e n (N .holds n m) in
-      words-proc d p ∙ ap (λ (k : ℕ). length (unfoldProc N ch m d p) * (2 + k)) (length-set e n _)
-  words-proc e (Proc.par p q) =
-      let c = unfoldProc N ch m e p in
-      let d = unfoldProc N ch m e q in
-      ap length (words-append c d)
-      ∙ length-append (wordsOf c) (wordsOf d)
-      ∙ ap₂ _+_ (words-proc e p) (words-proc e q)
-      ∙ sym (ap (λ (k : ℕ). k * (2 + length e)) (length-append c d) ∙ add-mul (length c) (length d) (2 + length e))
-  words-proc e (Proc.choice i p q) = pick (ch i) (words-proc e p) (words-proc e q)
+      subst (λ (k : ℕ). Wide k (unfoldProc N ch m d p)) (length-set e n _) (wide-unfold d p)
+  wide-unfold e (Proc.par p q) = All-append (λ t. length (t .env) ≡ length e) (unfoldProc N ch m e p) _ (wide-unfold e p) (wide-unfold e q)
+  wide-unfold e (Proc.choice i p q) = pick (ch i) (wide-unfold e p) (wide-unfold e q)
     where
-      pick : (b : Bool) → AsLong (length e) (unfoldProc N ch m e p) → AsLong (length e) (unfoldProc N ch m e q)
-          → AsLong (length e) (cond b (unfoldProc N ch m e q) (unfoldProc N ch m e p))
+      pick : (b : Bool) → Wide (length e) (unfoldProc N ch m e p) → Wide (length e) (unfoldProc N ch m e q)
+          → Wide (length e) (cond b (unfoldProc N ch m e q) (unfoldProc N ch m e p))
       pick true g h = h
       pick false g h = g
-  words-proc e (Proc.agent i s x ys p) =
-      let l = length-cut N (isFree (Proc.agent i s x ys p)) 0 e in
-      rw (one-mul, length-append) (omega arith)
+  wide-unfold e (Proc.agent i s x ys p) = (length-cut N (isFree (Proc.agent i s x ys p)) 0 e, tt)
 
 module _ (s : List ℕ) (t : Trailer) (choices : List ℕ) (i : ℕ) where
   -- any marker and any environment give as many threads
@@ -88,7 +75,7 @@ module _ (s : List ℕ) (t : Trailer) (choices : List ℕ) (i : ℕ) where
 
   pub words-unfolded : (m : ℕ) (e : List ℕ) → length (wordsOf (unfolded s t choices i m e)) ≡ length (unfolded s t choices i m e) * (2 + length e)
   unfolding unfolded
-  words-unfolded m e = words-proc (words []) (choicesOf choices) m e (procAt (arrayOf s t) i)
+  words-unfolded m e = length-words (length e) _ (wide-unfold (words []) (choicesOf choices) m e (procAt (arrayOf s t) i))
 
   -- the entries of the marker list do not matter
   pub unfolded-words : (es : List Entry) (m : ℕ) (e : List ℕ)
@@ -144,60 +131,28 @@ thread-put at a b xs l h =
 -- ---- what node i unfolds to, by the kind of its record
 
 -- node i of file s, which was read, has record r
-pub record Stands (s : List ℕ) (t : Trailer) (i : ℕ) (r : Record) : Type 0 where
-  pub read : IsRead s t
-  pub below : i < t .nodes
-  pub here : r ≡ recordOf s t i
+abbrev pub Stands : List ℕ → Trailer → ℕ → Record → Type 0
+Stands s t i r = IsRead s t × Reads s t i r
 
 module _ {s : List ℕ} {t : Trailer} {i : ℕ} {r : Record} (a : Stands s t i r) where
-  node-is : (v : Node) → nodeOf r ≡ v → nodeAt (arrayOf s t) i ≡ v
-  node-is v q = node-of s t i (a .below) ∙ ap nodeOf (sym (a .here)) ∙ q
+  stands : (v : Node) → nodeOf r ≡ v → nodeAt (arrayOf s t) i ≡ v
+  stands v q = node-is (a .0) (a .1) ∙ q
 
   at-new : r .kind ≡ 1 → nodeAt (arrayOf s t) i ≡ Node.new (r .name) (r .left)
   unfolding nodeOf
-  at-new k = node-is _ (rw k)
+  at-new k = stands _ (rw k)
 
   at-par : r .kind ≡ 2 → nodeAt (arrayOf s t) i ≡ Node.par (r .left) (r .right)
   unfolding nodeOf
-  at-par k = node-is _ (rw k)
+  at-par k = stands _ (rw k)
 
   at-choice : r .kind ≡ 3 → nodeAt (arrayOf s t) i ≡ Node.choice (r .left) (r .right)
   unfolding nodeOf
-  at-choice k = node-is _ (rw k)
-
-  -- the children lie above i, and a new opens one of the array's names
-  above : (c : ℕ) → has (children (nodeAt (arrayOf s t) i)) c ≡ true → (i < c) × (c < t .nodes)
-  above c k = child-above (arrayOf s t) (a .read .formed .children) i c k
-
-  pub new-left : r .kind ≡ 1 → (i < r .left) × (r .left < t .nodes)
-  unfolding children
-  new-left k = above (r .left) (rw (at-new k) (has-here (r .left) []))
-
-  pub new-name : r .kind ≡ 1 → r .name < t .names
-  unfolding binds all
-  new-name k =
-      let n = names-below (arrayOf s t) (a .read .formed .named) i (a .below) .1 in
-      ltb-true _ _ (and-split (ltb (r .name) (t .names)) true (ap (λ (v : Node). all (λ n. ltb n (t .names)) (binds v)) (sym (at-new k)) ∙ n) .0)
-
-  pub par-left : r .kind ≡ 2 → (i < r .left) × (r .left < t .nodes)
-  unfolding children
-  par-left k = above (r .left) (rw (at-par k) (has-here (r .left) (r .right ∷ [])))
-
-  pub par-right : r .kind ≡ 2 → (i < r .right) × (r .right < t .nodes)
-  unfolding children
-  par-right k = above (r .right) (rw (at-par k) (has-later (r .left) (r .right ∷ []) (r .right) (has-here (r .right) [])))
-
-  pub choice-left : r .kind ≡ 3 → (i < r .left) × (r .left < t .nodes)
-  unfolding children
-  choice-left k = above (r .left) (rw (at-choice k) (has-here (r .left) (r .right ∷ [])))
-
-  pub choice-right : r .kind ≡ 3 → (i < r .right) × (r .right < t .nodes)
-  unfolding children
-  choice-right k = above (r .right) (rw (at-choice k) (has-later (r .left) (r .right ∷ []) (r .right) (has-here (r .right) [])))
+  at-choice k = stands _ (rw k)
 
   -- the tree at i, grown from its node
   grown : (v : Node) → nodeAt (arrayOf s t) i ≡ v → procAt (arrayOf s t) i ≡ grow i (λ l. procAt (arrayOf s t) l) v
-  grown v q = procAt-grow (arrayOf s t) (a .read .formed .children) i (a .below) ∙ ap (grow i (λ l. procAt (arrayOf s t) l)) q
+  grown v q = procAt-grow (arrayOf s t) (a .0 .formed .children) i (a .1 .below) ∙ ap (grow i (λ l. procAt (arrayOf s t) l)) q
 
   module _ (ch : List ℕ) (m : ℕ) (env : List ℕ) where
     by-node : (v : Node) → nodeAt (arrayOf s t) i ≡ v
@@ -207,7 +162,7 @@ module _ {s : List ℕ} {t : Trailer} {i : ℕ} {r : Record} (a : Stands s t i r
 
     pub unfolded-stop : r .kind ≡ 0 → unfolded s t ch i m env ≡ []
     unfolding nodeOf grow unfoldProc
-    unfolded-stop k = by-node Node.stop (node-is _ (rw k))
+    unfolded-stop k = by-node Node.stop (stands _ (rw k))
 
     pub unfolded-new : r .kind ≡ 1 → unfolded s t ch i m env ≡ unfolded s t ch (r .left) m (set env (r .name) (opening (r .name) m))
     unfolding unfolded grow unfoldProc words
@@ -242,11 +197,11 @@ module _ {s : List ℕ} {t : Trailer} {i : ℕ} {r : Record} (a : Stands s t i r
     unfolding grow unfoldProc
     unfolded-agent k =
         let f : ℕ → Proc = λ l. procAt (arrayOf s t) l in
-        by-node (nodeOf r) (node-is (nodeOf r) refl)
+        by-node (nodeOf r) (stands (nodeOf r) refl)
         ∙ by-kind r (λ n v. 3 < n → unfoldProc (words []) (choicesOf ch) m env (grow i f v) ≡ one-thread (grow i f v))
         (λ l. absurd (omega arith)) (λ l. absurd (omega arith)) (λ l. absurd (omega arith)) (λ l. absurd (omega arith))
         (λ l. refl) (λ l. refl) (λ n g l. refl) k
-        ∙ sym (ap one-thread (grown (nodeOf r) (node-is (nodeOf r) refl)))
+        ∙ sym (ap one-thread (grown (nodeOf r) (stands (nodeOf r) refl)))
 
     pub count-agent : 3 < r .kind → length (unfolded s t ch i m env) ≡ 1
     count-agent k = ap length (unfolded-agent k)
@@ -261,7 +216,7 @@ module _ {s : List ℕ} {t : Trailer} {i : ℕ} {r : Record} (a : Stands s t i r
     words-agent k table free few =
         ap wordsOf (unfolded-agent k)
         ∙ append-nil (i ∷ m ∷ cutFrom (words []) (isFree (procAt (arrayOf s t) i)) 0 env)
-        ∙ ap (λ (xs : List ℕ). i ∷ m ∷ xs) (cut-same (words []) _ _ 0 env (λ v l g. sym (free i v (a .below) (omega arith))))
+        ∙ ap (λ (xs : List ℕ). i ∷ m ∷ xs) (cut-same (words []) _ _ 0 env (λ v l g. sym (free i v (a .1 .below) (omega arith))))
 
 -- ---- what a writing leaves
 

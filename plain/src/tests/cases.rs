@@ -330,6 +330,46 @@ fn b_fills_its_markers() {
 }
 
 #[test]
+fn b_strides() {
+    let b = array_b();
+    let mut threads = [0; 6];
+    let mut markers = [0; 8];
+    let mut counts = Counts {
+        threads: start(&b, &LEFT, &mut threads).unwrap(),
+        markers: 0,
+    };
+    for sender in [2, 5] {
+        let made = stride(
+            &b,
+            &LEFT,
+            &mut threads,
+            counts.threads,
+            &mut markers,
+            counts.markers,
+        );
+        counts.markers += 1;
+        let step = Made {
+            receiver: 4,
+            sender,
+            marker: counts.markers as u32,
+        };
+        assert_eq!(made, Ok(Stride::Made(step, counts)));
+    }
+    assert_eq!(markers, [4, 2, 0, 0, 4, 5, 0, 1]);
+    // A third marker does not fit, and the lists stay.
+    let before = threads;
+    let third = stride(&b, &LEFT, &mut threads, 2, &mut markers, 2);
+    assert_eq!(third, Ok(Stride::Full));
+    assert_eq!(threads, before);
+    // The resource alone has no sender.
+    let alone = stride(&b, &LEFT, &mut threads, 1, &mut markers, 2);
+    assert_eq!(alone, Ok(Stride::Quiet));
+    // A count that does not fit.
+    let refused = stride(&b, &LEFT, &mut threads, 3, &mut markers, 2);
+    assert_eq!(refused.map_err(|refusal| refusal.number), Err(23));
+}
+
+#[test]
 fn a_steps_and_keeps_the_words_behind() {
     let a = array_a();
     let mut threads = [7; 12];

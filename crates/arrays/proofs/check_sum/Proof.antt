@@ -1,5 +1,5 @@
 -- Refusals 4 and 5 by their tests, then the rest.
-use mathlib.Core.Path.{_≡_, sym, _∙_}
+use mathlib.Core.Path.{sym, _∙_}
 use denote.Ref.{now}
 use borrow.Author.Tests.{eq-eqb, ne-eqb, not-true, not-false}
 use Rattle.arrays.proofs.Laws.{start-fits}

@@ -3,7 +3,6 @@ use denote.Ref.{now}
 use mathlib.Core.Path.{_∙_}
 use Rattle.records.proofs.Checks.{refuses, goes-on, passes}
 use Rattle.fields.proofs.Laws.{first-bad-8}
-use native.Mathlib.Omega.{arith}
 use borrow.Author.Needs.{needs}
 use Rattle.arrays.proofs.check_tree.Statement.{statement}
 use Rattle.arrays.proofs.check_tree.Tie as tie

@@ -1,12 +1,11 @@
 -- Refusal 1 by its test, then the rest of the search over the trailer that was read.
 use denote.Ref.{now}
-use mathlib.Core.Path.{_≡_, sym, ap, _∙_}
+use mathlib.Core.Path.{sym, ap, _∙_}
 use borrow.Author.Tests.{not-true, not-false}
 use Rattle.laws.proofs.Search.{hit-test, hit-andThen}
 use Rattle.records.specs.Record.{foundOf}
 use Rattle.arrays.specs.File.{answer, readArray, trailerOf}
 use Rattle.arrays.proofs.Laws.{length-fits, answered-by}
-use native.Mathlib.Omega.{arith}
 use borrow.Author.Needs.{needs}
 use Rattle.arrays.proofs.read_array.Statement.{statement}
 use Rattle.arrays.proofs.read_array.Tie as tie

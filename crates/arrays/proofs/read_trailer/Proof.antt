@@ -1,6 +1,4 @@
 -- Field by field, what each read ensures.
-use mathlib.Core.Path.{_≡_}
-use native.Mathlib.Omega.{arith}
 use borrow.Author.Needs.{needs}
 use Rattle.arrays.proofs.read_trailer.Statement.{statement}
 use Rattle.arrays.proofs.read_trailer.Tie as tie

@@ -8,7 +8,8 @@ use lib.ListN.{length, getD}
 use borrow.Author.Tests.{ne-eqb}
 use Rattle.laws.specs.Bits.{bit}
 use Rattle.laws.proofs.Bits.{bit-zero, bit-or}
-use Rattle.frees.proofs.Laws.{left-child, right-child, child-kind}
+use Rattle.records.proofs.Laws.{left-child, right-child}
+use Rattle.frees.proofs.Laws.{child-kind}
 use Rattle.frees.proofs.below.Statement.{statement}
 use Rattle.frees.proofs.below.Tie as tie
 
@@ -16,7 +17,7 @@ use Rattle.frees.proofs.below.Tie as tie
 left-row : (c : tie.After-struct-known2) → let x = c .before .before .before .args in 4 * x .r .left + 3 < length (now (x .table))
 left-row c =
     let s = c .before .before .before in
-    s .pre .1 (s .args .r .left) (left-child (s .args .r) (ne-eqb (s .args .r .kind) 0 (c .before .if1 .left)))
+    s .pre .1 (s .args .r .left) (left-child (s .args .r) (omega (arith, c .before .if1 .left)))
 
 right-row :
     (c : tie.After-struct-known5) → let x = c .before .before .before .before .before .before .before .before .args in

@@ -7,7 +7,7 @@ use lib.ListN.{length}
 use borrow.Author.Needs.{needs}
 use Rattle.model.proofs.Tree.{child-above}
 use Rattle.records.specs.Record.{arrayOf}
-use Rattle.scopes.proofs.Table.{node-read}
+use Rattle.records.proofs.Laws.{node-read}
 use Rattle.frees.specs.Frees.{FreeFrom}
 use Rattle.frees.proofs.Laws.{free-row}
 use Rattle.frees.proofs.fill_frees.Statement.{statement}

@@ -9,7 +9,8 @@ use Rattle.layout.proofs.Laws.{balance-next, balance-fits}
 use Rattle.loads.specs.Loads.{loadFrom}
 use native.Mathlib.Nat.{le-of-suc-le-suc}
 use Rattle.wire.proofs.Laws.{u16-small}
-use Rattle.loads.proofs.Laws.{SameAbove, RowTo, above-set, row-set, child-of, half-child, filled-row}
+use Rattle.records.proofs.Laws.{child-of}
+use Rattle.loads.proofs.Laws.{SameAbove, RowTo, above-set, row-set, half-child, filled-row}
 use native.Mathlib.Omega.{arith}
 use borrow.Author.Needs.{needs}
 use Rattle.loads.proofs.fill_node.Statement.{statement}
@@ -115,7 +116,7 @@ loop-again c =
       length-set (l .loads) _ _ ∙ l .inv .2,
       above-set (now (x .loads)) (l .loads) (x .i) (l .k) few fits (l .inv .3) v,
       row-set (now (x .loads)) (l .loads) (x .i) (l .k) few fits (l .inv .3) v (r .result) w
-          (λ n g. child-of (now (x .file)) (x .t) (p .0 .1) (x .i) (p .1 .1) (r .result) (r .ensures) n g .0)
+          (λ n g. child-of (now (x .file)) (x .t) (x .i) (r .result) (p .1 .1) (r .ensures) (p .0 .1 .children) n g .0)
           (c .load-of .ensures ∙ ap (loadFrom (l .loads) (r .result) (l .k)) here) (l .inv .4),
     )
 

@@ -4,7 +4,8 @@ use mathlib.Core.Path.{_≡_}
 use denote.Ref.{now}
 use borrow.Author.Tests.{le-leb}
 use borrow.Author.Needs.{needs}
-use Rattle.loads.proofs.Laws.{load-kind, left-child, right-child}
+use Rattle.records.proofs.Laws.{left-child, right-child, right-kind}
+use Rattle.loads.proofs.Laws.{load-kind}
 use Rattle.loads.proofs.load_of.Statement.{statement}
 use Rattle.loads.proofs.load_of.Tie as tie
 
@@ -31,7 +32,7 @@ returns-3 c =
 load-at-requires-2 : tie.Need-load-at-requires-2
 load-at-requires-2 c κs =
     let start = c .before .before .before .before .before .before .before .before in
-    start .pre (start .args .r .right) (right-child (start .args .r) (omega arith) (omega arith))
+    start .pre (start .args .r .right) (right-child (start .args .r) (right-kind (start .args .r .kind) (omega arith) (omega arith)))
 
 add-result : tie.Need-add-result
 add-result c = search needs

@@ -9,14 +9,13 @@ use native.Mathlib.Omega.{arith}
 use borrow.Author.Needs.{needs}
 use borrow.Author.Tests.{not-true, not-false}
 use Rattle.laws.specs.Search.{every}
-use Rattle.laws.proofs.Search.{and-join, every-zero, every-step}
+use Rattle.laws.proofs.Search.{every-zero, every-pass, false-every}
 use Rattle.model.specs.Tree.{Array}
 use Rattle.model.specs.Numbers.{Entry, noEntry}
 use Rattle.model.specs.Memory.{entriesIn, entryFormed, unlike}
 use Rattle.model.proofs.Memory.{entries-at}
 use Rattle.records.specs.Record.{arrayOf}
 use Rattle.markers.specs.Markers.{entriesFormed}
-use Rattle.markers.proofs.Laws.{every-stops}
 use Rattle.markers.proofs.entries_formed.Statement.{statement}
 use Rattle.markers.proofs.entries_formed.Tie as tie
 
@@ -59,7 +58,7 @@ returns c =
     let fails = sym (tested (c .before)) ∙ not-true _ (c .if1 .taken) in
     sym
     (ap (λ (b : Bool). b && every (x .count) (unlike es))
-    (every-stops (x .count) (formedAt (arrayOf (now (x .file)) (x .t)) es) (c .before .before .before .before .loop .k) (omega arith) fails))
+    (false-every (x .count) (formedAt (arrayOf (now (x .file)) (x .t)) es) (c .before .before .before .before .loop .k) (omega arith) fails))
 
 add-k : tie.Need-add-k Inv-loop μ-loop
 add-k c = search needs
@@ -73,7 +72,7 @@ loop-again c =
     let l = c .before .before .before .before .loop in
     let passes = sym (tested (c .before)) ∙ not-false _ (c .if1 .left) in (
       omega arith,
-      every-step (formedAt (arrayOf (now (x .file)) (x .t)) (entriesIn (x .count) (now (x .markers)))) (l .k) ∙ and-join (l .inv .1) passes,
+      every-pass (formedAt (arrayOf (now (x .file)) (x .t)) (entriesIn (x .count) (now (x .markers)))) (l .k) (l .inv .1) passes,
     )
 
 entries-unlike-requires : tie.Need-entries-unlike-requires Inv-loop μ-loop

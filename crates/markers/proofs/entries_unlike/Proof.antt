@@ -8,11 +8,11 @@ use lib.ListN.{length}
 use native.Mathlib.Omega.{arith}
 use borrow.Author.Needs.{needs}
 use Rattle.laws.specs.Search.{every}
-use Rattle.laws.proofs.Search.{and-join, every-zero, every-step}
+use Rattle.laws.proofs.Search.{every-zero, every-pass, false-every}
 use Rattle.marks.proofs.Laws.{markIf-length}
 use Rattle.model.specs.Memory.{entriesIn, unlike}
 use Rattle.markers.specs.Markers.{slotOf, Seen, listed}
-use Rattle.markers.proofs.Laws.{every-stops, seen-more, unlike-listed}
+use Rattle.markers.proofs.Laws.{seen-more, unlike-listed}
 use Rattle.markers.proofs.entries_unlike.Statement.{statement}
 use Rattle.markers.proofs.entries_unlike.Tie as tie
 
@@ -58,7 +58,7 @@ returns : tie.Need-returns Inv-loop μ-loop
 returns c =
     let x = c .before .before .before .before .before .before .before .before .args in
     let k = c .before .before .before .before .before .before .loop .k in
-    sym (every-stops (x .count) (unlike (entriesIn (x .count) (now (x .markers)))) k (omega arith) (tested (c .before) ∙ ap not (c .if1 .taken)))
+    sym (false-every (x .count) (unlike (entriesIn (x .count) (now (x .markers)))) k (omega arith) (tested (c .before) ∙ ap not (c .if1 .taken)))
 
 slice-aggregate-see : tie.Need-slice-aggregate-see Inv-loop μ-loop
 slice-aggregate-see c = search needs
@@ -83,7 +83,7 @@ loop-again c =
       omega arith,
       ap length s ∙ markIf-length _ _ _ ∙ l .inv .1,
       rw s (seen-more (l .seen) (now (x .markers)) (l .k) (l .inv .2) (slot .result) (l .inv .1) (slot .ensures .1) place),
-      every-step (unlike (entriesIn (x .count) (now (x .markers)))) (l .k) ∙ and-join (l .inv .3) new,
+      every-pass (unlike (entriesIn (x .count) (now (x .markers)))) (l .k) (l .inv .3) new,
     )
 
 returns-2 : tie.Need-returns-2 Inv-loop μ-loop

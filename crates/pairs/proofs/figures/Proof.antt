@@ -1,7 +1,5 @@
 -- By the receiver's kind and the rule's number.
 use borrow.Author.Tests.{lt-ltb, le-ltb, eq-eqb, ne-eqb}
-use native.Mathlib.Omega.{arith}
-use borrow.Author.Needs.{needs}
 use Rattle.pairs.proofs.figures.Statement.{statement}
 use Rattle.pairs.proofs.figures.Tie as tie
 

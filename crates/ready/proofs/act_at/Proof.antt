@@ -6,10 +6,11 @@ use lib.ListN.{getD, drop}
 use borrow.Author.Needs.{needs}
 use Rattle.model.specs.Tree.{nodeAt, isAgent}
 use Rattle.model.specs.Memory.{threadIn}
+use Rattle.model.proofs.Tree.{agent-inside}
 use Rattle.model.proofs.Memory.{agent-word, name-word}
 use Rattle.records.specs.declared.Record.{Record}
 use Rattle.records.specs.Record.{recordOf, arrayOf}
-use Rattle.ready.proofs.Laws.{agent-node, agent-name, name-read}
+use Rattle.ready.proofs.Laws.{agent-name, name-read}
 use Rattle.ready.proofs.act_at.Statement.{statement}
 use Rattle.ready.proofs.act_at.Tie as tie
 
@@ -27,7 +28,7 @@ mul-record-at c =
     let x = c .before .before .before .before .args in
     let pre = c .before .before .before .before .pre in
     let i : c .wide .result ≡ getD (now (x .threads)) (x .at) 0 = c .wide .ensures .0 in
-    let inside = agent-node (now (x .file)) (x .t) (pre .0 .0) _ (pre .1) in
+    let inside : getD (now (x .threads)) (x .at) 0 < x .t .nodes = agent-inside (arrayOf (now (x .file)) (x .t)) _ (pre .1) in
     let fills = pre .0 .0 .fills in
     search needs
 
@@ -36,7 +37,7 @@ add-record-at c =
     let x = c .before .before .before .before .before .args in
     let pre = c .before .before .before .before .before .pre in
     let i : c .before .wide .result ≡ getD (now (x .threads)) (x .at) 0 = c .before .wide .ensures .0 in
-    let inside = agent-node (now (x .file)) (x .t) (pre .0 .0) _ (pre .1) in
+    let inside : getD (now (x .threads)) (x .at) 0 < x .t .nodes = agent-inside (arrayOf (now (x .file)) (x .t)) _ (pre .1) in
     let fills = pre .0 .0 .fills in
     search needs
 
@@ -45,7 +46,7 @@ record-at-requires c κs =
     let x = c .before .before .before .before .before .args in
     let pre = c .before .before .before .before .before .pre in
     let i : c .before .wide .result ≡ getD (now (x .threads)) (x .at) 0 = c .before .wide .ensures .0 in
-    let inside = agent-node (now (x .file)) (x .t) (pre .0 .0) _ (pre .1) in
+    let inside : getD (now (x .threads)) (x .at) 0 < x .t .nodes = agent-inside (arrayOf (now (x .file)) (x .t)) _ (pre .1) in
     let fills = pre .0 .0 .fills in
     search needs
 

@@ -8,7 +8,8 @@ use lib.ListN.{length}
 use borrow.Author.Needs.{needs}
 use Rattle.records.specs.Record.{arrayOf}
 use Rattle.model.proofs.Tree.{child-above}
-use Rattle.scopes.proofs.Table.{Filled, filled-start, filled-step, filled-all, node-read}
+use Rattle.records.proofs.Laws.{node-read}
+use Rattle.scopes.proofs.Table.{Filled, filled-start, filled-step, filled-all}
 use Rattle.scopes.proofs.scopes.Statement.{statement}
 use Rattle.scopes.proofs.scopes.Tie as tie
 

@@ -1,5 +1,5 @@
 -- `threads::bind_params` meets its contract. The loop's invariant: the parameters from k on are bound.
-use Prim.Native.Nat.{ℕ, suc, _-_, _≤_}
+use Prim.Native.Nat.{ℕ, suc, _-_, _≤_, _<_}
 use native.Mathlib.Omega.{arith}
 use mathlib.Core.Path.{_≡_, refl, sym, ap, ap₂, _∙_}
 use mathlib.Core.List.{List, map}
@@ -7,7 +7,8 @@ use denote.Ref.{now}
 use lib.ListN.{length, getD, set, take, length-set}
 use borrow.Author.Needs.{needs}
 use Rattle.model.specs.Calculus.{bind}
-use Rattle.threads.proofs.Laws.{one-below, boundFrom, bound-none, bound-turn}
+use Rattle.laws.proofs.Lists.{All-front}
+use Rattle.threads.proofs.Laws.{boundFrom, bound-none, bound-turn}
 use Rattle.threads.proofs.bind_params.Statement.{statement}
 use Rattle.threads.proofs.bind_params.Tie as tie
 
@@ -42,7 +43,7 @@ shared-slice-read-env c =
     let l = c .before .before .before .loop in
     let pre = c .before .before .before .before .before .before .before .before .pre in
     let eight : length (x .q .args) ≡ 8 = search needs in
-    let h = one-below (length (now (x .sent))) (x .q .arity) (x .q .args) (l .k - 1) (pre .1 .1) (omega arith) (omega arith) in
+    let h = All-front (λ y. y < length (now (x .sent))) (x .q .arity) (x .q .args) (l .k - 1) 0 (pre .1 .1) (omega arith) (omega arith) in
     omega arith
 
 array-read-wide-2 : tie.Need-array-read-wide-2 Inv-loop μ-loop
@@ -60,7 +61,7 @@ slice-write-env c =
     let l = c .before .before .before .before .loop in
     let pre = c .before .before .before .before .before .before .before .before .before .pre in
     let eight : length (x .p .args) ≡ 8 = search needs in
-    let h = one-below (length (now (x .env))) (x .p .arity) (x .p .args) (l .k - 1) (pre .1 .0) (omega arith) (omega arith) in
+    let h = All-front (λ y. y < length (now (x .env))) (x .p .arity) (x .p .args) (l .k - 1) 0 (pre .1 .0) (omega arith) (omega arith) in
     omega arith
 
 loop-less : tie.Need-loop-less Inv-loop μ-loop

@@ -8,8 +8,7 @@ use lib.ListN.{length, take, drop}
 use borrow.Author.Tests.{not-true, not-false}
 use borrow.Author.Needs.{needs}
 use Rattle.laws.specs.Lists.{put}
-use Rattle.laws.proofs.Put.{put-nil, length-put}
-use Rattle.threads.proofs.Moves.{put-same, stays-length}
+use Rattle.laws.proofs.Put.{part-length, put-nil, put-same, length-put}
 use Rattle.threads.proofs.keep_if.Statement.{statement}
 use Rattle.threads.proofs.keep_if.Tie as tie
 
@@ -29,7 +28,7 @@ returns-2 c =
     let e : x .to ≡ x .from = c .if2 .taken in
     rw (not-false (x .stays) (c .before .if1 .left)) (
       sym (ap (λ (k : ℕ). put k (take (x .width) (drop (x .from) l)) l) e ∙ put-same (x .from) (x .width) l room),
-      ap (λ (k : ℕ). x .to + k) (sym (stays-length (x .from) (x .width) l room)),
+      ap (λ (k : ℕ). x .to + k) (sym (part-length l (x .from) (x .width) room)),
     )
 
 move-down-requires : tie.Need-move-down-requires
@@ -42,13 +41,13 @@ same-length : tie.Need-same-length
 same-length c =
     let x = c .before .before .before .before .before .before .before .args in
     let l = now (x .threads) in
-    let n = stays-length (x .from) (x .width) l (c .before .before .before .before .before .before .before .pre .1) in
+    let n = part-length l (x .from) (x .width) (c .before .before .before .before .before .before .before .pre .1) in
     ap length (c .before .before .move-down .ensures) ∙ length-put (x .to) (take (x .width) (drop (x .from) l)) l (omega arith)
 
 returns-3 : tie.Need-returns-3
 returns-3 c =
     let x = c .before .before .before .before .before .before .before .args in
-    let n = stays-length (x .from) (x .width) (now (x .threads)) (c .before .before .before .before .before .before .before .pre .1) in
+    let n = part-length (now (x .threads)) (x .from) (x .width) (c .before .before .before .before .before .before .before .pre .1) in
     rw (not-false (x .stays) (c .before .before .before .before .before .if1 .left)) (c .before .before .move-down .ensures, ap (λ (k : ℕ). x .to + k) (sym n))
 
 pub keep-if-spec : {M : Type 1} → statement M

@@ -9,10 +9,9 @@ use lib.ListN.{getD}
 use borrow.Author.Tests.{not-true, not-false}
 use borrow.Author.Needs.{needs}
 use Rattle.laws.specs.Search.{every}
-use Rattle.laws.proofs.Search.{every-zero}
+use Rattle.laws.proofs.Search.{every-zero, every-pass, false-every}
 use Rattle.marks.specs.Marks.{marked}
 use Rattle.threads.specs.Threads.{wordOk}
-use Rattle.threads.proofs.Laws.{every-more, every-fails}
 use Rattle.threads.proofs.names_formed.Statement.{statement}
 use Rattle.threads.proofs.names_formed.Tie as tie
 
@@ -57,7 +56,7 @@ returns c =
     c .before .word-formed .ensures
     ∙ ap (λ (b : Bool). wordOk (marked (now (x .news)) 0) (x .marks) b word) (c .before .before .before .is-marked .ensures) in
     let below = c .before .before .before .before .loop-test .taken in
-    sym (every-fails (x .names) f (l .v) below (sym e ∙ not-true (c .before .word-formed .result) (c .if1 .taken)))
+    sym (false-every (x .names) f (l .v) below (sym e ∙ not-true (c .before .word-formed .result) (c .if1 .taken)))
 
 add-v : tie.Need-add-v Inv-loop μ-loop
 add-v c = search needs
@@ -74,7 +73,7 @@ loop-again c =
     let e : c .before .word-formed .result ≡ f (l .v) =
     c .before .word-formed .ensures
     ∙ ap (λ (b : Bool). wordOk (marked (now (x .news)) 0) (x .marks) b word) (c .before .before .before .is-marked .ensures) in
-    (omega arith, every-more f (l .v) (l .inv .1) (sym e ∙ not-false (c .before .word-formed .result) (c .if1 .left)))
+    (omega arith, every-pass f (l .v) (l .inv .1) (sym e ∙ not-false (c .before .word-formed .result) (c .if1 .left)))
 
 returns-2 : tie.Need-returns-2 Inv-loop μ-loop
 returns-2 c =

@@ -10,14 +10,13 @@ use lib.ListN.{getD, drop}
 use borrow.Author.Tests.{not-true, not-false}
 use borrow.Author.Needs.{needs}
 use Rattle.laws.specs.Search.{every}
-use Rattle.laws.proofs.Search.{every-zero}
+use Rattle.laws.proofs.Search.{every-zero, every-pass, false-every}
 use Rattle.model.specs.Numbers.{nobody}
 use Rattle.model.specs.Memory.{threadIn, threadsIn, threadFormed}
 use Rattle.model.proofs.Memory.{slot, next-slot, threads-at}
 use Rattle.records.specs.declared.Trailer.{Trailer}
 use Rattle.records.specs.Record.{arrayOf}
 use Rattle.threads.specs.Threads.{threadsFormed}
-use Rattle.threads.proofs.Laws.{every-more, every-fails}
 use Rattle.threads.proofs.threads_formed.Statement.{statement}
 use Rattle.threads.proofs.threads_formed.Tie as tie
 
@@ -59,7 +58,7 @@ returns c =
     let e : c .before .thread-formed .result ≡ f (l .i) =
     c .before .thread-formed .ensures
     ∙ test-at (now (x .file)) (x .t) (x .marks) (now (x .threads)) (x .count) (l .i) (l .at) (c .before .before .loop-test .taken) (l .inv .1) in
-    sym (every-fails (x .count) f (l .i) (c .before .before .loop-test .taken) (sym e ∙ not-true (c .before .thread-formed .result) (c .if1 .taken)))
+    sym (false-every (x .count) f (l .i) (c .before .before .loop-test .taken) (sym e ∙ not-true (c .before .thread-formed .result) (c .if1 .taken)))
 
 add-at : tie.Need-add-at Inv-loop μ-loop
 add-at c =
@@ -83,7 +82,7 @@ loop-again c =
     c .before .thread-formed .ensures
     ∙ test-at (now (x .file)) (x .t) (x .marks) (now (x .threads)) (x .count) (l .i) (l .at) (c .before .before .loop-test .taken) (l .inv .1) in
     let s = next-slot (x .t .names) (l .i) in
-    (omega arith, omega arith, every-more f (l .i) (l .inv .2) (sym e ∙ not-false (c .before .thread-formed .result) (c .if1 .left)))
+    (omega arith, omega arith, every-pass f (l .i) (l .inv .2) (sym e ∙ not-false (c .before .thread-formed .result) (c .if1 .left)))
 
 returns-2 : tie.Need-returns-2 Inv-loop μ-loop
 unfolding threadsFormed

@@ -10,7 +10,7 @@ use borrow.Author.Needs.{needs}
 use Rattle.marks.specs.Marks.{marked}
 use Rattle.model.specs.Memory.{newIn}
 use Rattle.threads.specs.Threads.{wordOk}
-use Rattle.threads.proofs.Laws.{marked-past}
+use Rattle.marks.proofs.Laws.{marked-past}
 use Rattle.threads.proofs.word_formed.Statement.{statement}
 use Rattle.threads.proofs.word_formed.Tie as tie
 

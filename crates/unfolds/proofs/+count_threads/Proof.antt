@@ -8,13 +8,9 @@ use lib.ListN.{length}
 use borrow.Fn.Kinds.{In}
 use borrow.Fn.PlainCycle.{Measures, is, falls, and}
 use Rattle.model.specs.Calculus.{Config}
+use Rattle.arrays.proofs.Agents.{left-above, right-above}
 use Rattle.unfolds.proofs.Laws.{
   Stands,
-  new-left,
-  par-left,
-  par-right,
-  choice-left,
-  choice-right,
   unfolded-stop,
   unfolded-new,
   unfolded-left,
@@ -52,7 +48,7 @@ calls n = (
 -- what is known once the record was read
 here : (n : ℕ) (c : count-threads-lts.After-record-at (calls n) (count-threads-at n) count-threads.Post)
     → let x = c .before .before .before .before .args in Stands (now (x .file)) (x .t) (x .i) (c .record-at .result)
-here n c = let p = c .before .before .before .before .pre .1 in record { read = p .0; below = p .1; here = c .record-at .ensures }
+here n c = let p = c .before .before .before .before .pre .1 in (p .0, record { below = p .1; is = c .record-at .ensures })
 
 count-threads-mul-record-at : (n : ℕ) → count-threads-lts.Need-mul-record-at (calls n) (count-threads-at n) count-threads.Post
 count-threads-mul-record-at n c = let p = c .before .before .pre .1 in omega (arith, p .0 .fills, p .0 .start, p .0 .formed .fewNodes)
@@ -77,7 +73,7 @@ count-threads-count-threads-requires n c κs =
     let start = after-record-at .before .before .before .before in
     let p = start .pre .1 in
     let a = here n after-record-at in
-    let z = new-left a (c .if2 .taken) in
+    let z = left-above (a .0) (a .1) (omega (arith, c .if2 .taken)) in
     (omega (arith, z .0, z .1, start .pre .0), (p .0, z .1, p .2))
 
 count-threads-returns-2 : (n : ℕ) → count-threads-lts.Need-returns-2 (calls n) (count-threads-at n) count-threads.Post
@@ -95,7 +91,7 @@ count-threads-count-threads-requires-2 n c κs =
     let start = after-record-at .before .before .before .before in
     let p = start .pre .1 in
     let a = here n after-record-at in
-    let z = par-left a (c .if3 .taken) in
+    let z = left-above (a .0) (a .1) (omega (arith, c .if3 .taken)) in
     (omega (arith, z .0, z .1, start .pre .0), (p .0, z .1, p .2))
 
 count-threads-count-threads-requires-3 : (n : ℕ) → count-threads-lts.Need-count-threads-requires-3 (calls n) (count-threads-at n) count-threads.Post
@@ -105,7 +101,7 @@ count-threads-count-threads-requires-3 n c κs =
     let start = after-record-at .before .before .before .before in
     let p = start .pre .1 in
     let a = here n after-record-at in
-    let z = par-right a (after-if3 .if3 .taken) in
+    let z = right-above (a .0) (a .1) (rw (after-if3 .if3 .taken)) in
     (omega (arith, z .0, z .1, start .pre .0), (p .0, z .1, p .2))
 
 count-threads-add-all : (n : ℕ) → count-threads-lts.Need-add-all (calls n) (count-threads-at n) count-threads.Post
@@ -148,7 +144,7 @@ count-threads-count-threads-requires-4 n c κs =
     let start = after-record-at .before .before .before .before in
     let p = start .pre .1 in
     let a = here n after-record-at in
-    let z = choice-right a (after-if5 .if5 .taken) in
+    let z = right-above (a .0) (a .1) (rw (after-if5 .if5 .taken)) in
     (omega (arith, z .0, z .1, start .pre .0), (p .0, z .1, p .2))
 
 count-threads-returns-5 : (n : ℕ) → count-threads-lts.Need-returns-5 (calls n) (count-threads-at n) count-threads.Post
@@ -170,7 +166,7 @@ count-threads-count-threads-requires-5 n c κs =
     let start = after-record-at .before .before .before .before in
     let p = start .pre .1 in
     let a = here n after-record-at in
-    let z = choice-left a (after-if5 .if5 .taken) in
+    let z = left-above (a .0) (a .1) (omega (arith, after-if5 .if5 .taken)) in
     (omega (arith, z .0, z .1, start .pre .0), (p .0, z .1, p .2))
 
 count-threads-returns-6 : (n : ℕ) → count-threads-lts.Need-returns-6 (calls n) (count-threads-at n) count-threads.Post

@@ -13,14 +13,9 @@ use Rattle.laws.specs.Lists.{put}
 use Rattle.model.specs.Calculus.{Config, choicesOf}
 use Rattle.model.specs.Memory.{wordsOf, opening}
 use Rattle.unfolds.specs.Unfold.{unfolded}
+use Rattle.arrays.proofs.Agents.{left-above, right-above, new-below}
 use Rattle.unfolds.proofs.Laws.{
   Stands,
-  new-left,
-  new-name,
-  par-left,
-  par-right,
-  choice-left,
-  choice-right,
   unfolded-stop,
   unfolded-new,
   unfolded-left,
@@ -67,7 +62,7 @@ calls n = (
 -- what is known once the record was read
 here : (n : ℕ) (c : unfold-node-lts.After-record-at (calls n) (unfold-node-at n) unfold-node.Post)
     → let x = c .before .before .before .before .before .before .before .args in Stands (now (x .file)) (x .t) (x .i) (c .record-at .result)
-here n c = let q = c .before .before .before .before .before .before .before .pre .1 .0 in record { read = q .0; below = q .1; here = c .record-at .ensures }
+here n c = let q = c .before .before .before .before .before .before .before .pre .1 .0 in (q .0, record { below = q .1; is = c .record-at .ensures })
 
 -- a new's name is one of the environment's, and its word fits
 named : (n : ℕ) (c : unfold-node-lts.Then2 (calls n) (unfold-node-at n) unfold-node.Post)
@@ -77,7 +72,7 @@ named : (n : ℕ) (c : unfold-node-lts.Then2 (calls n) (unfold-node-at n) unfold
 named n c =
     let u = c .before .before .before .before in
     let q = u .before .before .before .before .before .before .before .pre .1 .0 in
-    let v = new-name (here n u) (c .if2 .taken) in
+    let v = new-below (q .0) (here n u .1) (c .if2 .taken) in
     (omega (arith, v, q .4), omega (arith, v, q .0 .formed .fewNames), q .3)
 
 -- past kind 3 the node is an agent
@@ -149,7 +144,7 @@ unfold-node-unfold-node-requires n c κs =
     let p = start .pre .1 in
     let q = p .0 in
     let a = here n after-record-at in
-    let z = new-left a (after-if2 .if2 .taken) in
+    let z = left-above (a .0) (a .1) (omega (arith, after-if2 .if2 .taken)) in
     let room = subst (λ (c : Config ℕ ℕ). x .at + length (wordsOf c) ≤ length (now (x .threads)))
     (unfolded-new a (now (x .choices)) (x .mark) (now (x .env)) (after-if2 .if2 .taken)) (p .1 .1) in
     (omega (arith, z .0, z .1, start .pre .0), ((q .0, z .1, q .2, q .3, length-set (now (x .env)) _ _ ∙ q .4), (p .1 .0, room)))
@@ -202,7 +197,7 @@ unfold-node-unfold-node-requires-2 n c κs =
     let p = start .pre .1 in
     let q = p .0 in
     let a = here n after-record-at in
-    let z = par-left a (after-if3 .if3 .taken) in
+    let z = left-above (a .0) (a .1) (omega (arith, after-if3 .if3 .taken)) in
     let room = length-par a (now (x .choices)) (x .mark) (now (x .env)) (after-if3 .if3 .taken) in
     (omega (arith, z .0, z .1, start .pre .0), ((q .0, z .1, q .2, q .3, q .4), (p .1 .0, omega (arith, p .1 .1, room))))
 
@@ -216,7 +211,7 @@ unfold-node-unfold-node-requires-3 n c κs =
     let p = start .pre .1 in
     let q = p .0 in
     let a = here n after-record-at in
-    let z = par-right a (after-if3 .if3 .taken) in
+    let z = right-above (a .0) (a .1) (rw (after-if3 .if3 .taken)) in
     let room = length-par a (now (x .choices)) (x .mark) (now (x .env)) (after-if3 .if3 .taken) in
     let d = after-unfold-node2 .unfold-node2 .ensures in
     let f = after-unfold-node2 .unfold-node2 .kept .1 .1 .1 .1 .1 .1 .1 .0 in
@@ -270,7 +265,7 @@ unfold-node-unfold-node-requires-4 n c κs =
     let p = start .pre .1 in
     let q = p .0 in
     let a = here n after-record-at in
-    let z = choice-right a (after-if4 .if4 .taken) in
+    let z = right-above (a .0) (a .1) (rw (after-if4 .if4 .taken)) in
     let b : choicesOf (now (x .choices)) (x .i) ≡ true = sym (after-goes-right .goes-right .ensures) ∙ after-if5 .if5 .taken in
     let room = subst (λ (c : Config ℕ ℕ). x .at + length (wordsOf c) ≤ length (now (x .threads)))
     (unfolded-right a (now (x .choices)) (x .mark) (now (x .env)) (after-if4 .if4 .taken) b) (p .1 .1) in
@@ -306,7 +301,7 @@ unfold-node-unfold-node-requires-5 n c κs =
     let p = start .pre .1 in
     let q = p .0 in
     let a = here n after-record-at in
-    let z = choice-left a (after-if4 .if4 .taken) in
+    let z = left-above (a .0) (a .1) (omega (arith, after-if4 .if4 .taken)) in
     let b : choicesOf (now (x .choices)) (x .i) ≡ false = sym (after-goes-right .goes-right .ensures) ∙ after-if5 .if5 .left in
     let room = subst (λ (c : Config ℕ ℕ). x .at + length (wordsOf c) ≤ length (now (x .threads)))
     (unfolded-left a (now (x .choices)) (x .mark) (now (x .env)) (after-if4 .if4 .taken) b) (p .1 .1) in
