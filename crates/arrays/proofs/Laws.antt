@@ -44,11 +44,11 @@ answered-by s t x fits e found =
 -- ---- a file that was read
 
 -- what an answer says of the search
-answered : (f : Found F.Refusal) (t u : Trailer) → answer f t ≡ Read u → (f ≡ clear) × (t ≡ u)
+pub answered : (f : Found F.Refusal) (t u : Trailer) → answer f t ≡ Read u → (f ≡ clear) × (t ≡ u)
 answered clear t u e = (refl, cc)
 answered (hit r) t u e = (cc, cc)
 
-denied : (f : Found F.Refusal) (t : Trailer) (r : Refusal) → answer f t ≡ Refused r → f ≡ hit record { number = r .number; place = r .place }
+pub denied : (f : Found F.Refusal) (t : Trailer) (r : Refusal) → answer f t ≡ Refused r → f ≡ hit record { number = r .number; place = r .place }
 denied clear t r e = cc
 denied (hit q) t r e = let p : _≡_ {A = Refusal} record { number = q .number; place = q .place } r = cc in rw (← p)
 

@@ -29,13 +29,21 @@ fn print_end(ending: Ending, steps: usize) {
         Ending::Quiet => io::write_all(STDOUT_FILENO, b"quiet"),
         Ending::Spent => io::write_all(STDOUT_FILENO, b"spent"),
         Ending::Full => io::write_all(STDOUT_FILENO, b"full"),
-    };
+    }
+    ;
     lines::print_figure(steps);
     io::write_all(STDOUT_FILENO, b"\n");
 }
 
 // After all the steps that are allowed: quiet without a ready pair, else spent.
-fn print_last(array: &[u8], choices: &[u8], threads: &mut [u32], used: usize, markers: &mut [u16], noted: usize) {
+fn print_last(
+    array: &[u8],
+    choices: &[u8],
+    threads: &mut [u32],
+    used: usize,
+    markers: &mut [u16],
+    noted: usize,
+) {
     let answer = handover::walk(array, choices, threads, used, markers, noted, 0);
     match answer {
         WalkAnswer::Walked(w) => print_end(w.ending, 100),
