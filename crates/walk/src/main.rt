@@ -46,7 +46,10 @@ fn print_last(
 ) {
     let answer = handover::walk(array, choices, threads, used, markers, noted, 0);
     match answer {
-        WalkAnswer::Walked(w) => print_end(w.ending, 100),
+        WalkAnswer::Walked(w) => {
+            let ending = w.ending;
+            print_end(ending, 100);
+        }
         WalkAnswer::Refused(r) => print_refused(r),
     }
 }
@@ -73,6 +76,15 @@ fn print_walk(array: &[u8], choices: &[u8], threads: &mut [u32], count: usize) {
     print_last(array, choices, threads, used, &mut markers, noted);
 }
 
+// The start, and the walk from it.
+fn print_started(array: &[u8], choices: &[u8], threads: &mut [u32]) {
+    let answer = handover::start(array, choices, threads);
+    match answer {
+        StartAnswer::Refused(r) => print_refused(r),
+        StartAnswer::Started(count) => print_walk(array, choices, threads, count),
+    }
+}
+
 // The walk of an array of at most 62 names: 128 threads take 128 × (2 + N) words.
 fn print_array(array: &[u8], names: usize)
     requires { ⌜ names ≤ 62 ⌝ }
@@ -80,11 +92,7 @@ fn print_array(array: &[u8], names: usize)
     let choices = [0u8; 128];
     let mut threads = [0u32; 8192];
     let room = 128 * (2 + names);
-    let answer = handover::start(array, &choices, &mut threads[..room]);
-    match answer {
-        StartAnswer::Refused(r) => print_refused(r),
-        StartAnswer::Started(count) => print_walk(array, &choices, &mut threads[..room], count),
-    }
+    print_started(array, &choices, &mut threads[..room]);
 }
 
 fn main() {
