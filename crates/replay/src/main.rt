@@ -20,200 +20,13 @@ use handover::StepAnswer;
 use handover::StrideAnswer;
 use handover::WalkAnswer;
 use libc::STDOUT_FILENO;
-
-// A counted part of the script: where its content starts and the next part, in words, and how many things it has.
-struct Part {
-    start: usize,
-    count: usize,
-    next: usize,
-    fits: bool,
-}
-
-// A command, its operands (whatever stands there where it has fewer), and where the next one starts.
-struct Command {
-    op: usize,
-    x: usize,
-    y: usize,
-    next: usize,
-}
+use scripts::Command;
+use scripts::Part;
 
 // How many threads and markers the next call is told.
 struct Counts {
     threads: usize,
     markers: usize,
-}
-
-// The 32-bit word number i of the script, 0 past its end.
-fn word(s: &[u8], i: usize) -> usize
-    ensures { λ r. ⌜ r < 4294967296 ⌝ }
-{
-    if s.len() / 4 <= i {
-        return 0;
-    }
-    let at = 4 * i;
-    let low = records::wide(s[at]) + 256 * records::wide(s[at + 1]);
-    let high = records::wide(s[at + 2]) + 256 * records::wide(s[at + 3]);
-    low + 65536 * high
-}
-
-// How many words n things take, of which `per` go to a word.
-fn packed(n: usize, per: usize) -> usize
-    requires { ⌜ n < 4294967296 ⌝ }
-    ensures { λ r. ⌜ r ≤ n ⌝ }
-{
-    match per {
-        4 => (n + 3) / 4,
-        2 => (n + 1) / 2,
-        _ => n,
-    }
-}
-
-// No part: the script is cut there, or asks for more than fits.
-fn no_part() -> Part
-    ensures { λ r. ⌜ r .count ≡ 0 ⌝ }
-{
-    Part {
-        start: 0,
-        count: 0,
-        next: 0,
-        fits: false,
-    }
-}
-
-// The part whose count is word `at`, of at most so many things.
-fn part_at(s: &[u8], at: usize, most: usize, per: usize) -> Part
-    ensures { λ r. ⌜ r .count ≤ most ⌝ }
-{
-    if s.len() / 4 <= at {
-        return no_part();
-    }
-    let count = word(s, at);
-    if most < count {
-        return no_part();
-    }
-    let start = at + 1;
-    let next = start + packed(count, per);
-    Part {
-        start,
-        count,
-        next,
-        fits: next <= s.len() / 4,
-    }
-}
-
-// What stands from word `start` on.
-fn rest(s: &[u8], start: usize) -> &[u8] {
-    if s.len() / 4 < start {
-        return &s[..0];
-    }
-    let from = 4 * start;
-    &s[from..]
-}
-
-// n bytes from word `start` on.
-fn bytes(s: &[u8], start: usize, n: usize) -> &[u8] {
-    if s.len() / 4 < start {
-        return &s[..0];
-    }
-    let from = 4 * start;
-    if s.len() - from < n {
-        return &s[..0];
-    }
-    let to = from + n;
-    &s[from..to]
-}
-
-fn fill_words(s: &[u8], words: &mut [u32]) {
-    let count = words.len();
-    let mut i: usize = 0;
-    while i < count {
-        words[i] = word(s, i) as u32;
-        i += 1;
-    }
-}
-
-// The low or the high half of a word.
-fn half(x: usize, i: usize) -> usize
-    requires { ⌜ x < 4294967296 ⌝ }
-    ensures { λ r. ⌜ r < 65536 ⌝ }
-{
-    if i == 0 { x % 65536 } else { x / 65536 }
-}
-
-fn fill_numbers(s: &[u8], numbers: &mut [u16]) {
-    let count = numbers.len();
-    let mut i: usize = 0;
-    while i < count {
-        numbers[i] = half(word(s, i / 2), i % 2) as u16;
-        i += 1;
-    }
-}
-
-// How many words a command takes.
-fn command_words(op: usize) -> usize
-    ensures { λ r. ⌜ (1 ≤ r) × (r ≤ 3) ⌝ }
-{
-    match op {
-        1 | 4 | 5 | 6 => 3,
-        2 => 2,
-        _ => 1,
-    }
-}
-
-// The command at word `at`.
-fn command_at(s: &[u8], at: usize) -> Command
-    requires { ⌜ 4 * at < length (now s) ⌝ }
-    ensures { λ r. ⌜ (r .x < 4294967296) × (r .y < 4294967296) × (at < r .next) ⌝ }
-{
-    let op = word(s, at);
-    let x = word(s, at + 1);
-    let y = word(s, at + 2);
-    let next = at + command_words(op);
-    Command { op, x, y, next }
-}
-
-// The command is known, is whole, and its index lies in the list.
-fn is_good(c: Command, end: usize, words: usize, numbers: usize) -> bool {
-    let in_words = (c.op != 5) | (c.x < words);
-    let in_numbers = (c.op != 6) | ((c.x < numbers) & (c.y < 65536));
-    (c.op <= 7) & (c.next <= end) & in_words & in_numbers
-}
-
-fn position(n: usize) -> usize {
-    if n == 4294967295 {
-        18446744073709551615
-    } else {
-        n
-    }
-}
-
-fn wide(x: u16) -> u32 {
-    x as u32
-}
-
-fn mix(h: u32, x: u32) -> u32 {
-    let sum = (h as u64) * 31 + (x as u64);
-    (sum % 4294967296) as u32
-}
-
-fn words_check(words: &[u32]) -> u32 {
-    let mut h: u32 = 7;
-    let mut i: usize = 0;
-    while i < words.len() {
-        h = mix(h, words[i]);
-        i += 1;
-    }
-    h
-}
-
-fn numbers_check(numbers: &[u16]) -> u32 {
-    let mut h: u32 = 7;
-    let mut i: usize = 0;
-    while i < numbers.len() {
-        h = mix(h, wide(numbers[i]));
-        i += 1;
-    }
-    h
 }
 
 // The line's beginning.
@@ -224,8 +37,8 @@ fn print_name(path: &[u8], call: &[u8]) {
 
 // The line's end.
 fn print_checks(threads: &[u32], markers: &[u16]) {
-    lines::print_figure(words_check(threads) as usize);
-    lines::print_figure(numbers_check(markers) as usize);
+    lines::print_figure(scripts::words_check(threads) as usize);
+    lines::print_figure(scripts::numbers_check(markers) as usize);
     io::write_all(STDOUT_FILENO, b"\n");
 }
 
@@ -244,7 +57,7 @@ fn print_words(words: &[u32]) {
 fn print_numbers(numbers: &[u16]) {
     let mut i: usize = 0;
     while i < numbers.len() {
-        print_word(wide(numbers[i]));
+        print_word(scripts::wide(numbers[i]));
         i += 1;
     }
 }
@@ -440,28 +253,14 @@ fn call_stride(
     next
 }
 
-fn set_word(words: &mut [u32], i: usize, x: u32) {
-    if i < words.len() {
-        words[i] = x;
-    }
-}
-
-fn set_number(numbers: &mut [u16], i: usize, x: usize) {
-    if i < numbers.len() {
-        if x < 65536 {
-            numbers[i] = x as u16;
-        }
-    }
-}
-
 // Sets a word or a number of the lists, or prints them.
 fn change(path: &[u8], threads: &mut [u32], markers: &mut [u16], c: Command)
     requires { ⌜ c .y < 4294967296 ⌝ }
 {
     let op = c.op;
     match op {
-        5 => set_word(threads, c.x, c.y as u32),
-        6 => set_number(markers, c.x, c.y),
+        5 => scripts::set_word(threads, c.x, c.y as u32),
+        6 => scripts::set_number(markers, c.x, c.y),
         _ => print_lists(path, threads, markers),
     }
 }
@@ -479,8 +278,8 @@ fn perform(
     requires { ⌜ (c .x < 4294967296) × (c .y < 4294967296) ⌝ }
 {
     let op = c.op;
-    let x = position(c.x);
-    let y = position(c.y);
+    let x = scripts::position(c.x);
+    let y = scripts::position(c.y);
     match op {
         0 => call_start(path, array, choices, threads, markers, counts),
         1 => call_step(path, array, choices, threads, markers, counts, x, y),
@@ -511,14 +310,14 @@ fn follow(
     markers: &mut [u16],
 ) {
     let mut counts = Counts {
-        threads: position(word(s, 0)),
-        markers: position(word(s, 1)),
+        threads: scripts::position(scripts::word(s, 0)),
+        markers: scripts::position(scripts::word(s, 1)),
     };
     let end = s.len() / 4;
     let mut at: usize = 2;
     while at < end {
-        let c = command_at(s, at);
-        if !is_good(c, end, threads.len(), markers.len()) {
+        let c = scripts::command_at(s, at);
+        if !scripts::is_good(c, end, threads.len(), markers.len()) {
             print_bad(path);
             return;
         }
@@ -538,8 +337,8 @@ fn load(
     numbers: &[u8],
     markers: &mut [u16],
 ) {
-    fill_words(words, threads);
-    fill_numbers(numbers, markers);
+    scripts::fill_words(words, threads);
+    scripts::fill_numbers(numbers, markers);
     follow(path, s, array, choices, threads, markers);
 }
 
@@ -560,23 +359,23 @@ fn lend(
     let numbers = m.count;
     load(
         path,
-        rest(s, m.next),
-        bytes(s, a.start, a.count),
-        bytes(s, c.start, c.count),
-        rest(s, t.start),
+        scripts::rest(s, m.next),
+        scripts::bytes(s, a.start, a.count),
+        scripts::bytes(s, c.start, c.count),
+        scripts::rest(s, t.start),
         &mut threads[..words],
-        rest(s, m.start),
+        scripts::rest(s, m.start),
         &mut markers[..numbers],
     );
 }
 
 // Takes the script apart. The lists lent are as long as the longest that a script may have.
 fn run(path: &[u8], s: &[u8], threads: &mut [u32], markers: &mut [u16]) {
-    let a = part_at(s, 0, 20000, 4);
-    let c = part_at(s, a.next, 1000, 4);
-    let t = part_at(s, c.next, threads.len(), 1);
-    let m = part_at(s, t.next, markers.len(), 2);
-    let commands = rest(s, m.next);
+    let a = scripts::part_at(s, 0, 20000, 4);
+    let c = scripts::part_at(s, a.next, 1000, 4);
+    let t = scripts::part_at(s, c.next, threads.len(), 1);
+    let m = scripts::part_at(s, t.next, markers.len(), 2);
+    let commands = scripts::rest(s, m.next);
     let fits = a.fits & c.fits & t.fits & m.fits;
     if fits & (8 <= commands.len()) & (s.len() % 4 == 0) {
         lend(path, s, a, c, t, m, threads, markers);

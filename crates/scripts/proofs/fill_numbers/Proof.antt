@@ -3,8 +3,8 @@ use lib.ListN.{length}
 use Prim.Native.Nat.{_-_}
 use mathlib.Core.Path.{_≡_}
 use borrow.Author.Needs.{needs}
-use Rattle.replay.proofs.fill_numbers.Statement.{statement}
-use Rattle.replay.proofs.fill_numbers.Tie as tie
+use Rattle.scripts.proofs.fill_numbers.Statement.{statement}
+use Rattle.scripts.proofs.fill_numbers.Tie as tie
 
 abbrev Inv-loop : tie.InvT-loop
 Inv-loop s numbers₀ count i₀ numbers i = length numbers ≡ length numbers₀

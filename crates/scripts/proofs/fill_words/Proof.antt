@@ -3,8 +3,8 @@ use lib.ListN.{length}
 use Prim.Native.Nat.{_-_}
 use mathlib.Core.Path.{_≡_}
 use borrow.Author.Needs.{needs}
-use Rattle.replay.proofs.fill_words.Statement.{statement}
-use Rattle.replay.proofs.fill_words.Tie as tie
+use Rattle.scripts.proofs.fill_words.Statement.{statement}
+use Rattle.scripts.proofs.fill_words.Tie as tie
 
 abbrev Inv-loop : tie.InvT-loop
 Inv-loop s words₀ count i₀ words i = length words ≡ length words₀
