@@ -3,7 +3,7 @@
 // A check takes 32,768 bytes of stack for one mark per place of an entry: only an entry whose place is marked already is searched
 // for among the earlier ones.
 ghost use mathlib.Core.Path.{_≡_};
-ghost use mathlib.Core.Bool.{true};
+ghost use mathlib.Core.Bool.{true, cond};
 ghost use Prim.Native.Nat.{_+_, _*_, _<_, _≤_};
 ghost use lib.ListN.{length, drop};
 ghost use Rattle.laws.specs.Search.{every};
@@ -59,7 +59,7 @@ pub fn find_entry(markers: &[u16], count: usize, e: Entry) -> usize
 }
 
 // Writes entry `count`.
-pub fn add_entry(markers: &mut [u16], count: usize, e: Entry)
+fn add_entry(markers: &mut [u16], count: usize, e: Entry)
     requires { ⌜ 4 * count + 3 < length (now markers) ⌝ }
     ensures { λ _. ⌜ now (markers .exit) ≡ put (4 * count) (entryNumbers (entryOf e)) (now (markers .entry)) ⌝ }
 {
@@ -67,6 +67,16 @@ pub fn add_entry(markers: &mut [u16], count: usize, e: Entry)
     markers[4 * count + 1] = e.out;
     markers[4 * count + 2] = e.left;
     markers[4 * count + 3] = e.right;
+}
+
+// The same where `on` is true.
+pub fn add_if(markers: &mut [u16], on: bool, count: usize, e: Entry)
+    requires { ⌜ (on ≡ true → 4 * count + 3 < length (now markers)) ⌝ }
+    ensures { λ _. ⌜ now (markers .exit) ≡ cond on (put (4 * count) (entryNumbers (entryOf e)) (now (markers .entry))) (now (markers .entry)) ⌝ }
+{
+    if on {
+        add_entry(markers, count, e);
+    }
 }
 
 fn wide(x: u16) -> usize

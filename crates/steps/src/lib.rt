@@ -164,10 +164,11 @@ fn fire_resource(
         advance_here(file, t, table, choices, threads, count, r, s, p, q, mark);
         return Fired::Made(total, listed, mark);
     }
-    if (4096 <= listed) | (markers.len() / 4 <= listed) {
+    let room = (listed < 4096) & (listed < markers.len() / 4);
+    markers::add_if(markers, room, listed, e);
+    if !room {
         return Fired::Stopped(29);
     }
-    markers::add_entry(markers, listed, e);
     let mark = (listed + 1) as u32;
     advance_here(file, t, table, choices, threads, count, r, s, p, q, mark);
     Fired::Made(total, listed + 1, mark)

@@ -1,14 +1,14 @@
--- The entry of the new marker is searched for: found, the step runs under its number; not found and room for it, it is appended first;
--- else nothing is written.
+-- The entry of the new marker is searched for: found, the step runs under its number; not found, it is appended where there is room for
+-- it, and else nothing is written.
 use Prim.Native.Nat.{ℕ, _+_, _*_, _/_, _≤_, _<_, min}
 use native.Mathlib.Omega.{arith}
 use mathlib.Core.Path.{_≡_, refl, sym, ap, _∙_}
-use mathlib.Core.Logic.{⊎-elim}
-use mathlib.Core.Bool.{true, false, _||_}
+use mathlib.Core.Logic.{_⊎_, inl, inr}
+use mathlib.Core.Bool.{Bool, true, false, cond, _&&_, true≢false}
 use mathlib.Core.List.{List}
-use lib.Dec.{leb}
-use borrow.Author.Tests.{leb-true, leb-false}
-use Rattle.laws.proofs.Search.{or-split, or-false}
+use lib.Dec.{ltb}
+use borrow.Author.Tests.{ltb-true, ltb-false, not-true, not-false}
+use Rattle.laws.proofs.Search.{decided, and-split, and-join}
 use denote.Ref.{now}
 use lib.ListN.{length, getD}
 use borrow.Author.Needs.{needs}
@@ -23,17 +23,20 @@ use Rattle.steps.proofs.fire_resource.Statement.{statement}
 use Rattle.steps.proofs.fire_resource.Tie as tie
 
 -- the test of room for one marker more
-full : (listed n : ℕ) → leb 4096 listed || leb (n / 4) listed ≡ true → min 4096 (n / 4) ≤ listed
-full listed n e =
-    ⊎-elim (λ (k : leb 4096 listed ≡ true). let h = leb-true 4096 listed k in omega arith)
-    (λ (k : leb (n / 4) listed ≡ true). let h = leb-true (n / 4) listed k in omega arith) (or-split (leb 4096 listed) (leb (n / 4) listed) e)
-
-room-left : (listed n : ℕ) → leb 4096 listed || leb (n / 4) listed ≡ false → listed < min 4096 (n / 4)
+room-left : (listed n : ℕ) → ltb listed 4096 && ltb listed (n / 4) ≡ true → listed < min 4096 (n / 4)
 room-left listed n e =
-    let s = or-false (leb 4096 listed) (leb (n / 4) listed) e in
-    let h = leb-false 4096 listed (s .0) in
-    let k = leb-false (n / 4) listed (s .1) in
+    let s = and-split (ltb listed 4096) (ltb listed (n / 4)) e in
+    let h = ltb-true listed 4096 (s .0) in
+    let k = ltb-true listed (n / 4) (s .1) in
     omega arith
+
+full : (listed n : ℕ) → ltb listed 4096 && ltb listed (n / 4) ≡ false → min 4096 (n / 4) ≤ listed
+full listed n e = go (decided (ltb listed 4096)) (decided (ltb listed (n / 4)))
+  where
+    go : (ltb listed 4096 ≡ true) ⊎ (ltb listed 4096 ≡ false) → (ltb listed (n / 4) ≡ true) ⊎ (ltb listed (n / 4) ≡ false) → min 4096 (n / 4) ≤ listed
+    go (inr p) q = let h = ltb-false listed 4096 p in omega arith
+    go (inl p) (inr q) = let h = ltb-false listed (n / 4) q in omega arith
+    go (inl p) (inl q) = absurd (true≢false (sym (and-join p q) ∙ e))
 
 -- a number at most as large as another that it equals
 le-of : {a b c : ℕ} → a ≡ b → a ≤ c → b ≤ c
@@ -120,11 +123,17 @@ returns c =
     let ok = p .1 .0 .0 in
     let ch = now (x .choices) in
     let eq = c .before .before .before .before .before .find-entry .ensures ∙ ap (λ (e : N.Entry). position e (entriesIn (x .listed) (now (x .markers)))) (c .before .before .before .before .before .before .before .entry-of .ensures) in
-    let at : ℕ → List ℕ = λ k. put 0 (wordsOf (advanced (now (x .file)) (x .t) ch (threadsIn (x .t .names) (x .count) (now (x .threads))) (x .r) (x .s) k (x .p) (x .q))) (now (x .threads)) in (
+    let at : ℕ → List ℕ = λ k. put 0 (wordsOf (advanced (now (x .file)) (x .t) ch (threadsIn (x .t .names) (x .count) (now (x .threads))) (x .r) (x .s) k (x .p) (x .q))) (now (x .threads)) in
+    (
       found-made read ok ch (p .1 .0 .1) _ _ (p .1 .1 .1) (omega (arith, eq, c .before .before .before .before .if1 .taken)) (c .before .before .advance-here .ensures ∙ ap (λ (k : ℕ). at (k + 1)) eq)
-          (p .1 .1 .0 ∙ same-size read ok ch _),
+      (p .1 .1 .0 ∙ same-size read ok ch _),
       ap (λ (k : ℕ). k + 1) eq ∙ found-told read ok ch (p .1 .0 .1),
     )
+
+add-if-requires : tie.Need-add-if-requires
+add-if-requires c κs =
+    let x = c .before .before .before .before .before .before .before .before .before .before .before .before .args in
+    λ e. let h = room-left (x .listed) (length (now (x .markers))) e in omega arith
 
 same-length-3 : tie.Need-same-length-3
 same-length-3 c = search needs
@@ -134,26 +143,23 @@ same-length-4 c = search needs
 
 returns-2 : tie.Need-returns-2
 returns-2 c =
-    let x = c .before .before .before .before .before .before .before .before .before .before .before .before .args in
-    let p = c .before .before .before .before .before .before .before .before .before .before .before .before .pre in
+    let x = c .before .before .before .before .before .before .before .before .before .before .before .before .before .before .before .before .args in
+    let p = c .before .before .before .before .before .before .before .before .before .before .before .before .before .before .before .before .pre in
     let read = p .0 .0 in
     let ok = p .1 .0 .0 in
     let ch = now (x .choices) in
-    let eq = c .before .before .find-entry .ensures ∙ ap (λ (e : N.Entry). position e (entriesIn (x .listed) (now (x .markers)))) (c .before .before .before .before .entry-of .ensures) in (
+    let eq = c .before .before .before .before .before .before .find-entry .ensures ∙ ap (λ (e : N.Entry). position e (entriesIn (x .listed) (now (x .markers)))) (c .before .before .before .before .before .before .before .before .entry-of .ensures) in
+    let added : Bool → List ℕ = λ b. cond b (put (4 * x .listed) (entryNumbers (entryOf (c .before .before .before .before .before .before .before .before .entry-of .result))) (now (x .markers))) (now (x .markers)) in
+    let none = not-true _ (c .if2 .taken) in
+    (
       (
-        unlisted read ok ch (p .1 .0 .1) (omega (arith, eq, c .before .if1 .left)) (full (x .listed) (length (now (x .markers))) (c .if2 .taken))
-            (le-of (p .1 .1 .0) (p .1 .1 .1)),
+        unlisted read ok ch (p .1 .0 .1) (omega (arith, eq, c .before .before .before .before .before .if1 .left)) (full (x .listed) (length (now (x .markers))) none)
+        (le-of (p .1 .1 .0) (p .1 .1 .1)),
         refl,
-        refl,
+        c .before .before .before .add-if .ensures ∙ ap added none,
       ),
       tt,
     )
-
-add-entry-requires : tie.Need-add-entry-requires
-add-entry-requires c κs =
-    let x = c .before .before .before .before .before .before .before .before .before .before .before .before .before .args in
-    let h = room-left (x .listed) (length (now (x .markers))) (c .before .if2 .left) in
-    omega arith
 
 add-mark-2 : tie.Need-add-mark-2
 add-mark-2 c =
@@ -184,8 +190,8 @@ advance-here-requires-2 c κs =
     let room = le-of (p .1 .1 .0) (p .1 .1 .1) in
     (p .0, ((pair read ok ch, omega (arith, f .0), small-s read ok ch .1), words-fit read ok ch _ room))
 
-add-t21 : tie.Need-add-t21
-add-t21 c =
+add-t22 : tie.Need-add-t22
+add-t22 c =
     let x = c .before .before .before .before .before .before .before .before .before .before .before .before .before .before .before .before .before .before .before .before .args in
     let p = c .before .before .before .before .before .before .before .before .before .before .before .before .before .before .before .before .before .before .before .before .pre in
     let read = p .0 .0 in
@@ -207,13 +213,15 @@ returns-3 c =
     let ok = p .1 .0 .0 in
     let ch = now (x .choices) in
     let eq = c .before .before .before .before .before .before .before .before .before .before .find-entry .ensures ∙ ap (λ (e : N.Entry). position e (entriesIn (x .listed) (now (x .markers)))) (c .before .before .before .before .before .before .before .before .before .before .before .before .entry-of .ensures) in
-    let at : ℕ → List ℕ = λ k. put 0 (wordsOf (advanced (now (x .file)) (x .t) ch (threadsIn (x .t .names) (x .count) (now (x .threads))) (x .r) (x .s) k (x .p) (x .q))) (now (x .threads)) in
+    let added : Bool → List ℕ = λ b. cond b (put (4 * x .listed) (entryNumbers (entryOf (c .before .before .before .before .before .before .before .before .before .before .before .before .entry-of .result))) (now (x .markers))) (now (x .markers)) in
     let w = 2 + x .t .names in
+    let some = not-false _ (c .before .before .before .before .if2 .left) in
     let past : x .listed ≤ position (entryAt (now (x .threads)) (x .r * w) (x .s * w)) (entriesIn (x .listed) (now (x .markers))) =
-    omega (arith, eq, c .before .before .before .before .before .before .before .before .before .if1 .left) in (
-      added-made read ok ch (p .1 .0 .1) _ _ (p .1 .1 .1) past (room-left (x .listed) (length (now (x .markers))) (c .before .before .before .before .before .before .before .before .if2 .left)) _
-          (c .before .before .before .before .before .before .add-entry .ensures ∙ ap (λ (e : N.Entry). put (4 * x .listed) (entryNumbers e) (now (x .markers))) (c .before .before .before .before .before .before .before .before .before .before .before .before .entry-of .ensures))
-          (c .before .before .advance-here2 .ensures) (p .1 .1 .0 ∙ same-size read ok ch _),
+    omega (arith, eq, c .before .before .before .before .before .before .before .before .before .if1 .left) in
+    (
+      added-made read ok ch (p .1 .0 .1) _ _ (p .1 .1 .1) past (room-left (x .listed) (length (now (x .markers))) some) _
+      (c .before .before .before .before .before .before .before .add-if .ensures ∙ ap added some ∙ ap (λ (e : N.Entry). put (4 * x .listed) (entryNumbers e) (now (x .markers))) (c .before .before .before .before .before .before .before .before .before .before .before .before .entry-of .ensures))
+      (c .before .before .advance-here2 .ensures) (p .1 .1 .0 ∙ same-size read ok ch _),
       added-told read ok ch (p .1 .0 .1) past,
     )
 
@@ -232,14 +240,14 @@ fire-resource-spec =
     same-length
     same-length-2
     returns
+    add-if-requires
     same-length-3
     same-length-4
     returns-2
-    add-entry-requires
     add-mark-2
     cast-mark-2
     advance-here-requires-2
-    add-t21
+    add-t22
     same-length-5
     same-length-6
     returns-3)
