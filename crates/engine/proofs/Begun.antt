@@ -13,7 +13,7 @@ use Rattle.laws.proofs.Search.{or-split, or-false}
 use Rattle.laws.proofs.Put.{put-nil}
 use Rattle.model.specs.Tree.{Array}
 use Rattle.model.specs.Calculus.{choicesOf, start}
-use Rattle.model.specs.Memory.{Memory, words, wordsOf, numbersOf, threadRoom, markerRoom, Result, stops, leaves, store, fitted, startIn}
+use Rattle.model.specs.Memory.{Memory, words, wordsOf, numbersOf, threadRoom, stops, leaves, store, fitted, startIn}
 use Rattle.model.proofs.Memory.{thread-room}
 use Rattle.records.specs.declared.Trailer.{Trailer}
 use Rattle.records.specs.Record.{arrayOf}
@@ -82,7 +82,8 @@ module _ (f : List ℕ) (t : Trailer) (choices l : List ℕ) (n : ℕ) (e : n �
         let q : length (wordsOf (unfolded f t choices 0 0 bare)) ≡ n * (2 + t .names) = w ∙ ap₂ (λ (i j : ℕ). i * (2 + j)) (sym (g .0)) z in
         omega arith)
 
-    pub start-made : (env : List ℕ) → env ≡ bare → (l′ : List ℕ) → l′ ≡ put 0 (wordsOf (unfolded f t choices 0 0 env)) l → startIn a (choicesOf choices) m ≡ leaves (memory l′ n [] 0)
+    pub start-made : (env : List ℕ) → env ≡ bare → (l′ : List ℕ) → l′ ≡ put 0 (wordsOf (unfolded f t choices 0 0 env)) l
+        → startIn a (choicesOf choices) m ≡ leaves (memory l′ n [] 0)
     unfolding startIn fitted store numbersOf unfolded start words
     start-made env ev l′ el₀ =
         let el = el₀ ∙ ap (λ (x : List ℕ). put 0 (wordsOf (unfolded f t choices 0 0 x)) l) ev in

@@ -1,24 +1,24 @@
 -- What the engine's calls say of the model: agents of well-formed lists, a pair that was found, steps that are refused or made, and
 -- the walk as a chain of turns.
-use Prim.Native.Nat.{ℕ, zero, suc, _+_, _*_, _-_, _≤_, _<_}
+use Prim.Native.Nat.{ℕ, zero, suc, _+_, _*_, _-_, _<_}
 use native.Mathlib.Nat.{zero-add, add-zero}
 use native.Mathlib.Omega.{arith}
 use mathlib.Core.Path.{_≡_, refl, sym, ap, ap₂, _∙_, subst}
-use mathlib.Core.Logic.{_⊎_, inl, inr, _≢_, ⊎-elim}
+use mathlib.Core.Logic.{_⊎_, inl, inr, _≢_}
 use mathlib.Core.Bool.{Bool, true, false, cond, not, _&&_, _||_, true≢false}
-use mathlib.Core.List.{List, []}
+use mathlib.Core.List.{List}
 use lib.Dec.{eqb, ltb, leb}
 use lib.ListN.{length, getD, drop}
 use borrow.Author.Tests.{eqb-true, eqb-false, eq-eqb, ne-eqb, le-ltb, leb-true, leb-false, not-false}
-use Rattle.laws.specs.Search.{Found, clear, hit, test, first, every}
+use Rattle.laws.specs.Search.{Found, clear, hit}
 use Rattle.laws.proofs.Search.{decided, and-split, or-split, or-false, first-hit, test-hit}
 use Rattle.laws.proofs.Lists.{All-getD}
 use Rattle.model.specs.Tree.{Array, nodeAt, isAgent}
-use Rattle.model.specs.Calculus.{Choices, Thread, Config, Attempt, choicesOf, attempt}
+use Rattle.model.specs.Calculus.{Choices, Thread, Config, Attempt, choicesOf}
 use Rattle.model.specs.Formed.{WellFormed}
 use Rattle.model.specs.Numbers.{nobody}
 use Rattle.model.specs.Memory as M
-use Rattle.model.specs.Memory.{Memory, words, threadIn, threadsIn, configOf, entriesOf, threadFormed, formed, Result, stops, leaves, onAnswer, stepIn, firstReady, try}
+use Rattle.model.specs.Memory.{Memory, words, threadIn, configOf, entriesOf, threadFormed, formed, Result, stops, leaves, onAnswer, stepIn, firstReady, try}
 use Rattle.model.specs.Memory.{ends, more, onPair, onStep, walkIn}
 use Rattle.model.proofs.Memory.{length-threads, threads-at, thread-at}
 use Rattle.model.proofs.Lent.{Sound, formed-sound, sound-formed}
@@ -57,7 +57,8 @@ found-meets a c k ch r s e =
     let er : x .0 ≡ r = ap (λ (u : Attempt). u .receiver) (z .1) in
     let es : y .0 ≡ s = ap (λ (u : Attempt). u .sender) (z .1) in
     let m : meeting a (getD c (x .0) nobody) (getD c (y .0) nobody) ≡ 0 = eqb-true _ 0 (not-false _ (z .0)) in
-    (rw (← er) (x .1), rw (← es) (y .1), subst (λ (i : ℕ). meeting a (getD c i nobody) (getD c s nobody) ≡ 0) er (subst (λ (j : ℕ). meeting a (getD c (x .0) nobody) (getD c j nobody) ≡ 0) es m))
+    let n = subst (λ (j : ℕ). meeting a (getD c (x .0) nobody) (getD c j nobody) ≡ 0) es m in
+    (rw (← er) (x .1), rw (← es) (y .1), subst (λ (i : ℕ). meeting a (getD c i nobody) (getD c s nobody) ≡ 0) er n)
 
 -- ---- lists of an array that was read
 

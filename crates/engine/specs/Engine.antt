@@ -1,18 +1,15 @@
 -- Start, step and walk on the lists of an array that was read: refusal 23 first, then the model's; and one turn of the walk.
-use Prim.Native.Nat.{ℕ, suc, _+_, _*_, _≤_}
+use Prim.Native.Nat.{ℕ, _+_}
 use mathlib.Core.Path.{_≡_}
 use mathlib.Core.Bool.{Bool, true, false, cond}
-use mathlib.Core.List.{List, []}
-use lib.Dec.{eqb}
-use lib.ListN.{length, getD}
+use mathlib.Core.List.{List}
+use lib.ListN.{getD}
 use Rattle.laws.specs.Search.{Found, clear, hit}
 use Rattle.model.specs.Tree.{Array}
-use Rattle.model.specs.Calculus.{Choices, Attempt, choicesOf}
+use Rattle.model.specs.Calculus.{Choices, Attempt}
 use Rattle.model.specs.Numbers.{nobody}
 use Rattle.model.specs.Memory as M
-use Rattle.model.specs.Memory.{Memory, configOf, entriesOf, words, formed, Result, stops, leaves, startIn, stepIn, firstReady, try, walkIn}
-use Rattle.records.specs.declared.Trailer.{Trailer}
-use Rattle.records.specs.Record.{arrayOf}
+use Rattle.model.specs.Memory.{Memory, configOf, entriesOf, words, formed, Result, stops, leaves, stepIn, firstReady, walkIn}
 use Rattle.steps.specs.Steps.{memory, markerMade}
 use Rattle.engine.specs.declared.Ending.{Ending}
 use Rattle.engine.specs.declared.Ending.the-variants.{Quiet, Spent, Full}

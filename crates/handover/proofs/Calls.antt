@@ -1,20 +1,20 @@
 -- The engine's entries: what the engine leaves is what the definitions leave, and what that says in the terms of the calculus.
 use Prim.Native.Nat.{ℕ}
-use mathlib.Core.Path.{_≡_, refl, sym, ap, ap₂, _∙_, subst}
-use mathlib.Core.Logic.{_⊎_, inl, inr, _≢_}
+use mathlib.Core.Path.{_≡_, refl, sym, ap, _∙_, subst}
+use mathlib.Core.Logic.{_≢_}
 use mathlib.Core.Bool.{Bool, true, false, true≢false}
 use mathlib.Core.List.{List, []}
 use lib.Dec.{eqb}
-use lib.ListN.{length, getD}
+use lib.ListN.{length}
 use borrow.Author.Tests.{eqb-true, eq-eqb, ne-eqb}
-use Rattle.laws.specs.Search.{Found, clear, hit, test, andThen}
-use Rattle.laws.proofs.Search.{decided, clear-hit, test-clear, clear-test, hit-test, andThen-split, andThen-join, hit-andThen, clear-andThen}
+use Rattle.laws.specs.Search.{Found, clear, hit, test}
+use Rattle.laws.proofs.Search.{clear-hit, test-clear, clear-test, hit-test, andThen-split, andThen-join, hit-andThen, clear-andThen}
 use Rattle.model.specs.Tree.{Array}
 use Rattle.model.specs.Formed as F
 use Rattle.model.specs.Formed.{WellFormed}
 use Rattle.model.specs.Calculus.{Choices, Attempt, choicesOf, start}
 use Rattle.model.specs.Memory as M
-use Rattle.model.specs.Memory.{Memory, configOf, entriesOf, words, formed, refusal22, refusal23, Result, stops, leaves, startIn, stepIn, walkIn, firstReady, store, fitted, try}
+use Rattle.model.specs.Memory.{Memory, configOf, entriesOf, words, formed, refusal22, refusal23, Result, stops, leaves, startIn, stepIn, firstReady, store, fitted, try}
 use Rattle.model.proofs.Lent.{Sound, formed-sound, sound-formed}
 use Rattle.model.proofs.Engine.{Fate, crowded, unlisted, stored, fitted-fate, step-follows, step-sound, start-follows, start-sound, walk-follows}
 use Rattle.records.specs.declared.Refusal.{Refusal}
@@ -29,7 +29,6 @@ use Rattle.steps.specs.declared.Fired.the-variants.{Stopped, Made}
 use Rattle.steps.specs.Steps.{memory, Leaves}
 use Rattle.engine.specs.declared.Ending.{Ending}
 use Rattle.engine.specs.declared.Ending.the-variants.{Quiet, Spent, Full}
-use Rattle.engine.specs.declared.Turn.{Turn}
 use Rattle.engine.specs.declared.Stride.{Stride}
 use Rattle.engine.specs.declared.Stride.the-variants as T
 use Rattle.engine.specs.declared.Strode.{Strode}
@@ -37,14 +36,14 @@ use Rattle.engine.specs.declared.Strode.the-variants as S
 use Rattle.engine.specs.declared.Walk.{Walk}
 use Rattle.engine.specs.declared.Walked.{Walked}
 use Rattle.engine.specs.declared.Walked.the-variants as W
-use Rattle.engine.specs.Engine.{checkedStep, Next, ended, moved, onResult, turnIn, onFound, strideIn, endingOf, walkedOf, TurnOf, Strides, Walks, Turns}
+use Rattle.engine.specs.Engine.{checkedStep, ended, moved, onResult, turnIn, onFound, strideIn, endingOf, TurnOf, Strides, Walks, Turns}
 use Rattle.handover.specs.declared.StartAnswer.the-variants as StartA
 use Rattle.handover.specs.declared.StepAnswer.the-variants as StepA
 use Rattle.handover.specs.declared.StrideAnswer.the-variants as StrideA
 use Rattle.handover.specs.declared.WalkAnswer.the-variants as WalkA
 use Rattle.handover.specs.Front.{arrayIn}
 use Rattle.handover.specs.Engine as H
-use Rattle.handover.specs.Engine.{Reply, counts, turned, walked, refused, Left, left, unchanged, unless, resultLeft, walkLeft, startRefusal, lentRefusal}
+use Rattle.handover.specs.Engine.{Reply, counts, turned, refused, left, unchanged, unless, resultLeft, walkLeft, startRefusal, lentRefusal}
 use Rattle.handover.specs.Engine.{startOf, stepOf, walkOf, turnLeft, foundLeft, strideOf, saysStride, strideAnswer, StartPromise, StepPromise, WalkPromise}
 
 -- ---- refusals 1 to 12 and 22

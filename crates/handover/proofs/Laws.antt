@@ -1,13 +1,13 @@
 -- From the parts to the whole promise: what the readers and the rules found is the definition's answer; with it come demand 2 and,
 -- where it is held, demand 3.
-use Prim.Native.Nat.{ℕ, _+_, _<_}
+use Prim.Native.Nat.{ℕ, _+_}
 use mathlib.Core.Path.{_≡_, refl, sym, ap, _∙_, subst}
 use mathlib.Core.Logic.{_↔_}
 use mathlib.Core.Bool.{_&&_}
 use mathlib.Core.List.{List}
 use lib.Dec.{eqb, ltb}
 use borrow.Author.Tests.{ltb-true}
-use Rattle.laws.specs.Search.{clear, hit, andThen}
+use Rattle.laws.specs.Search.{clear, hit}
 use Rattle.laws.proofs.Search.{and-split, clear-hit, test-clear, first-clear, andThen-join, clear-andThen, hit-andThen}
 use Rattle.wire.specs.Numbers.{u16At}
 use Rattle.model.specs.Tree.{nodeAt, isAgent}
@@ -30,7 +30,7 @@ use Rattle.rules.specs.declared.Ruling.the-variants as R
 use Rattle.rules.specs.Ruling.{ruled}
 use Rattle.handover.specs.declared.Verdict.{Verdict}
 use Rattle.handover.specs.declared.Verdict.the-variants.{Held, Refused}
-use Rattle.handover.specs.Front.{Said, held, rule, refused, says, IsHeld, arrayIn, sizesIn, tableIn, afterRules, judged, Demand3, Judges, verdictOf}
+use Rattle.handover.specs.Front.{Said, held, rule, refused, says, IsHeld, arrayIn, sizesIn, tableIn, afterRules, judged, Judges, verdictOf}
 
 -- what refusal 21 leaves of the claims: each names a balance of the table
 claims-fit : (f : List ℕ) (t : Trailer) (s : List ℕ) (z : Sizes) → IsTable f t s z → ClaimsFit (tableOf s z)

@@ -2,19 +2,19 @@
 -- terms of the calculus.
 use Prim.Native.Nat.{ℕ}
 use mathlib.Core.Path.{_≡_}
-use mathlib.Core.Bool.{true, false}
+use mathlib.Core.Bool.{true}
 use mathlib.Core.List.{List, []}
 use lib.ListN.{getD}
 use Rattle.laws.specs.Search.{Found, clear, hit, andThen}
 use Rattle.model.specs.Tree.{Array}
 use Rattle.model.specs.Formed as F
-use Rattle.model.specs.Calculus.{calculus, Choices, Attempt, choicesOf, attempt}
+use Rattle.model.specs.Calculus.{calculus, Attempt, choicesOf, attempt}
 use Rattle.model.specs.Numbers.{nobody}
 use Rattle.model.specs.Memory as M
 use Rattle.model.specs.Memory.{Memory, configOf, entriesOf, words, formed, refusal22, refusal23, Result, stops, leaves, startIn, stepIn, walkIn, firstReady, try}
 use Rattle.model.specs.Memory.{standsFor, Starts, Follows, Walks, Ends}
 use Rattle.arrays.specs.File.{arrayRefusal}
-use Rattle.steps.specs.Steps.{memory, markerMade}
+use Rattle.steps.specs.Steps.{markerMade}
 use Rattle.engine.specs.declared.Ending.{Ending}
 use Rattle.engine.specs.declared.Ending.the-variants.{Quiet, Spent, Full}
 use Rattle.engine.specs.Engine.{endingOf}

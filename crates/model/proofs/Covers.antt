@@ -1,13 +1,13 @@
 -- What the cells of threads hold, for any way to write markers and cells: if each free name's cell fits it, so do the cells of what an
 -- unfolding and a step leave. Fits: what a cell must be for a name; Fine: what a marker must be. Safety takes the rows of a table for
 -- Fits, the lent lists take refusal 23.
-use Prim.Native.Nat.{ℕ, zero, suc, _<_}
+use Prim.Native.Nat.{ℕ, suc, _<_}
 use native.Mathlib.Omega.{arith}
 use mathlib.Core.Path.{_≡_, refl, sym, ap, _∙_, subst}
 use mathlib.Core.Logic.{_⊎_, inl, inr}
-use mathlib.Core.Bool.{Bool, true, false, cond, not, _&&_, _||_, false≢true, true≢false}
-use mathlib.Core.List.{List, [], _∷_, _++_, map}
-use mathlib.Core.Option.{Option, none, some}
+use mathlib.Core.Bool.{Bool, true, false, cond, false≢true, true≢false}
+use mathlib.Core.List.{List, [], _∷_, _++_}
+use mathlib.Core.Option.{some}
 use lib.Dec.{eqb}
 use lib.ListN.{length, getD, set, replicate, length-set, length-replicate, length-map}
 use lib.Seq.{getD-set-same, getD-set-other}
@@ -19,7 +19,7 @@ use Rattle.model.specs.Tree.{Array, Sort, out, inp, resource, Proc, Agen
 use Rattle.model.specs.Formed.{WellFormed}
 use Rattle.model.specs.Calculus.{Notation, Choices, Thread, Config, Attempt, unfoldProc, bind, keep, stays, noThread, sentCells, markerOf}
 use Rattle.model.specs.Calculus.{receiverLeaves, senderLeaves, stepped, start}
-use Rattle.model.proofs.Tree.{Wf, AgentWf, wf-procAt, agent-tree}
+use Rattle.model.proofs.Tree.{Wf, wf-procAt, agent-tree}
 use Rattle.model.proofs.Closed.{closed}
 use Rattle.model.proofs.Threads.{keep-all, length-cut, getD-cut, getD-uncut, length-bind}
 use Rattle.model.proofs.Stepped.{Meet}

@@ -1,33 +1,32 @@
 -- Start, step and walk on lent lists: they keep what refusal 23 asks, and what they leave stands for what the calculus leaves.
-use Prim.Native.Nat.{ℕ, zero, suc, _+_, _*_, _≤_, _<_, zero-le}
-use native.Mathlib.Nat.{le-trans, le-refl, zero-add}
+use Prim.Native.Nat.{ℕ, zero, suc, _+_, _≤_, _<_, zero-le}
+use native.Mathlib.Nat.{le-trans, le-refl}
 use native.Mathlib.Omega.{arith}
 use mathlib.Core.Path.{_≡_, refl, sym, ap, ap₂, _∙_, subst}
-use mathlib.Core.Logic.{_⊎_, inl, inr, _≢_, ⊎-elim}
-use mathlib.Core.Bool.{Bool, true, false, cond, not, _&&_, false≢true, true≢false}
+use mathlib.Core.Logic.{_⊎_, inl, inr, _≢_}
+use mathlib.Core.Bool.{Bool, true, false, cond, not, false≢true, true≢false}
 use mathlib.Core.List.{List, [], _∷_, _++_, map}
-use mathlib.Core.Option.{Option, none, some}
+use mathlib.Core.Option.{none, some}
 use lib.Dec.{eqb, ltb, leb}
-use lib.ListN.{length, getD, drop, length-map, length-append}
+use lib.ListN.{length, getD, drop, length-map}
 use borrow.Author.Tests.{leb-true, leb-false, not-false}
-use Rattle.laws.specs.Search.{Found, clear, hit, test, first, every}
+use Rattle.laws.specs.Search.{Found, clear, hit, test}
 use Rattle.laws.specs.Lists.{All, put}
 use Rattle.laws.proofs.Search.{decided, first-same, first-hit, test-hit}
-use Rattle.laws.proofs.Lists.{All-append, All-getD, All-at, All-map, All-maps, getD-All, below-All}
+use Rattle.laws.proofs.Lists.{All-append, All-getD, All-map, All-maps, getD-All, below-All}
 use Rattle.laws.proofs.Put.{put-front, length-put}
-use Rattle.model.specs.Tree.{Array, Sort, out, inp, resource, Node, nodeAt, Proc, Agent, agentAt, procAt, isFree, receives}
+use Rattle.model.specs.Tree.{Array, Sort, out, inp, resource, Node, nodeAt, Proc, Agent, procAt, isFree, receives}
 use Rattle.model.specs.Nodes.{agentOf}
 use Rattle.model.specs.Formed.{WellFormed}
 use Rattle.model.specs.Calculus.{Marker, Cell, calculus, Choices, Thread, Config, Attempt, Answer, refused, next, noThread, markerOf, stepped, attempt, start}
-use Rattle.model.specs.Numbers.{Entry, noEntry, decode, Listed, position, extend, numbers, listAfter, nobody, markersAfter, mapThread, mapAnswer, CellFits, ThreadFits}
-use Rattle.model.specs.Memory.{newIn, markerIn, words, threadsIn, wordsOf, entriesIn, numbersOf, Memory, configOf, entriesOf, threadRoom, markerRoom, isResource, isOut, threadFormed}
-use Rattle.model.specs.Memory.{formed, Result, stops, leaves, store, fitted, startIn, onAnswer, stepIn, isNext, try, firstReady, Ending, quiet, spent, full}
+use Rattle.model.specs.Numbers.{Entry, noEntry, decode, Listed, position, extend, numbers, listAfter, markersAfter, mapAnswer, CellFits, ThreadFits}
+use Rattle.model.specs.Memory.{markerIn, words, threadsIn, wordsOf, entriesIn, numbersOf, Memory, configOf, entriesOf, threadRoom, markerRoom, isResource, isOut, threadFormed}
+use Rattle.model.specs.Memory.{Result, stops, leaves, store, fitted, startIn, onAnswer, stepIn, isNext, try, firstReady, Ending, quiet, spent, full}
 use Rattle.model.specs.Memory.{Walked, ends, more, onPair, onStep, walkIn, cellOf, decodeWord, standsFor, Starts, Follows, Walks, Ends}
 use Rattle.model.proofs.Nodes.{agent-at}
-use Rattle.model.proofs.Tree.{agent-below}
 use Rattle.model.proofs.Stepped.{Meet, attempt-next}
 use Rattle.model.proofs.Decoded.{after-kept, made-fits}
-use Rattle.model.proofs.Memory.{Wide, length-threads, length-entries, length-words, length-numbers, threads-words, entries-numbers, thread-room, marker-room, threads-wide}
+use Rattle.model.proofs.Memory.{Wide, length-entries, length-words, length-numbers, threads-words, entries-numbers, thread-room, marker-room, threads-wide}
 use Rattle.model.proofs.Words.{cells, decoded, made-same, list-cells, markers-cells, attempt-words, start-words}
 use Rattle.model.proofs.Lent.{Holds, Ok, formed-ok, ok-formed, Kinds, Sound}
 use Rattle.model.proofs.Covers as C

@@ -12,7 +12,7 @@ use mathlib.Core.List.{List, [], _∷_, _++_}
 use lib.Dec.{eqb}
 use lib.ListN.{length, getD, replicate}
 use borrow.Author.Tests.{eqb-true, eq-eqb, ne-eqb}
-use Rattle.laws.specs.Lists.{All, has}
+use Rattle.laws.specs.Lists.{All}
 use Rattle.laws.proofs.Search.{and-split, or-right}
 use Rattle.laws.proofs.Lists.{All-map}
 use Rattle.model.specs.Tree.{Array, Sort, out, inp, resource, Agent, agentAt, procAt, receives, load, isNew}

@@ -1,22 +1,21 @@
 -- An attempt on words is the attempt on the cells and marker numbers that the words stand for, and so, with the entries, an attempt of
 -- the calculus.
-use Prim.Native.Nat.{ℕ, zero, suc, _+_, _*_, _/_, _%_, _-_, _≤_, _<_, zero-le}
-use native.Mathlib.Nat.{le-trans}
+use Prim.Native.Nat.{ℕ, _-_, _≤_, _<_, zero-le}
 use native.Mathlib.Omega.{arith}
 use mathlib.Core.Path.{_≡_, refl, sym, ap, ap₂, _∙_}
 use mathlib.Core.Logic.{_⊎_, inl, inr, _≢_}
-use mathlib.Core.Bool.{Bool, true, false, cond, not, _&&_}
-use mathlib.Core.List.{List, [], _∷_, _++_, map}
+use mathlib.Core.Bool.{true, false, cond, not, _&&_}
+use mathlib.Core.List.{List, [], _∷_, map}
 use mathlib.Core.Option.{Option, none, some}
-use lib.Dec.{eqb, ltb}
+use lib.Dec.{eqb}
 use lib.ListN.{length, getD, List·getD-map}
 use borrow.Author.Tests.{eqb-true, eqb-false, eq-eqb, ne-eqb}
 use Rattle.laws.specs.Lists.{All}
 use Rattle.laws.proofs.Search.{decided, and-split, and-join, same-test}
 use Rattle.laws.proofs.Lists.{All-at, All-map, All-maps}
 use Rattle.model.specs.Tree.{Array, Sort, out, inp, resource, Agent, agentAt}
-use Rattle.model.specs.Calculus.{Marker, Cell, unheld, holds, sameCell, calculus, Choices, Thread, Config, Attempt, Answer, refused, next, noThread, cell, markerOf, attempt, start}
-use Rattle.model.specs.Numbers.{Entry, decode, Listed, position, numbers, listAfter, nobody, markersAfter, mapThread, mapAnswer, mapCell, decodeThread, ThreadFits, decodeLent, startLent}
+use Rattle.model.specs.Calculus.{Marker, Cell, unheld, holds, sameCell, calculus, Choices, Thread, Config, Attempt, Answer, refused, next, noThread, markerOf, attempt, start}
+use Rattle.model.specs.Numbers.{Entry, decode, Listed, numbers, listAfter, nobody, markersAfter, mapThread, mapAnswer, mapCell, decodeThread, ThreadFits, decodeLent, startLent}
 use Rattle.model.specs.Memory.{opening, newIn, markerIn, words, cellOf, decodeWord}
 use Rattle.model.proofs.Markers.{position-le}
 use Rattle.model.proofs.Natural.{Agrees, attempt-map, start-map}

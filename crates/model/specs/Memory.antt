@@ -1,15 +1,15 @@
 -- Lent memory: threads as words, markers as entries of four numbers; refusals 22 and 23; start, step and walk on such lists, with
 -- the limits of 28 and 29 (01, "Configurations and steps").
-use Prim.Native.Nat.{ℕ, zero, suc, _+_, _*_, _-_, _/_, _%_, _<_, _≤_, min}
+use Prim.Native.Nat.{ℕ, zero, suc, _+_, _*_, _-_, _/_, _%_, _<_, min}
 use mathlib.Core.Path.{_≡_}
 use mathlib.Core.Logic.{_⊎_}
 use mathlib.Core.Bool.{Bool, true, false, cond, not, _&&_}
 use mathlib.Core.List.{List, [], _∷_, _++_, map}
-use lib.Dec.{eqb, ltb, leb}
+use lib.Dec.{eqb, leb}
 use lib.ListN.{length, getD, take, drop}
-use Rattle.laws.specs.Search.{Found, clear, hit, test, first, every, any}
+use Rattle.laws.specs.Search.{Found, clear, hit, test, first, every}
 use Rattle.laws.specs.Lists.{put}
-use Rattle.model.specs.Tree.{Array, Sort, out, inp, resource, Node, stop, new, par, choice, agent, nodeAt, isAgent, isNew, isFree, procAt}
+use Rattle.model.specs.Tree.{Array, out, inp, resource, Node, stop, new, par, choice, agent, nodeAt, isAgent, isNew, isFree, procAt}
 use Rattle.model.specs.Formed.{Refusal, refuse}
 use Rattle.model.specs.Calculus.{Notation, Marker, Cell, unheld, holds, calculus, Choices, Thread, Config, Attempt, Answer, refused, next, attempt, start}
 use Rattle.model.specs.Numbers.{Entry, noEntry, sameEntry, position, decode, mapThread, mapCell, nobody, markersAfter}

@@ -1,6 +1,6 @@
 -- A ready pair of well-formed lists: its records, and its step as a result on the lists.
-use Prim.Native.Nat.{ℕ, zero, suc, _+_, _*_, _-_, _/_, _≤_, _<_, min}
-use native.Mathlib.Nat.{le-trans, add-mul}
+use Prim.Native.Nat.{ℕ, suc, _+_, _*_, _-_, _/_, _≤_, _<_, min}
+use native.Mathlib.Nat.{add-mul}
 use native.Mathlib.Numerals.{lt-of-le-of-ne, add-one}
 use native.Mathlib.Omega.{arith}
 use mathlib.Core.Path.{_≡_, refl, sym, ap, ap₂, _∙_, subst}
@@ -10,15 +10,15 @@ use mathlib.Core.List.{List, [], _∷_, _++_, map}
 use mathlib.Core.Option.{Option, none, some}
 use lib.Dec.{eqb, ltb, leb}
 use lib.ListN.{length, getD, take, drop, length-append}
-use borrow.Author.Tests.{eqb-true, eqb-false, eq-eqb, ne-eqb, leb-true, leb-false, le-leb, lt-leb, lt-ltb, le-ltb, ltb-true, ltb-false, not-true, not-false}
-use Rattle.laws.specs.Lists.{All, put}
+use borrow.Author.Tests.{eqb-true, eqb-false, eq-eqb, ne-eqb, le-leb, lt-leb, lt-ltb, le-ltb, ltb-true, ltb-false, not-true, not-false}
+use Rattle.laws.specs.Lists.{put}
 use Rattle.laws.proofs.Search.{decided}
 use Rattle.laws.proofs.Lists.{All-getD}
 use Rattle.laws.proofs.Put.{put-from, put-same}
-use Rattle.model.specs.Tree.{Array, Sort, out, inp, resource, Agent, agentAt, receives}
-use Rattle.model.specs.Calculus.{Choices, Thread, Config, Attempt, Answer, next, bind, keep, cutFrom, unfoldProc, stays, choicesOf, markerOf, receiverLeaves, senderLeaves, stepped, attempt}
+use Rattle.model.specs.Tree.{Array, Sort, out, resource, Agent, agentAt, receives}
+use Rattle.model.specs.Calculus.{Thread, Config, Attempt, Answer, next, bind, keep, cutFrom, unfoldProc, stays, choicesOf, markerOf, receiverLeaves, senderLeaves, stepped, attempt}
 use Rattle.model.specs.Numbers.{Entry, position, extend, listAfter, nobody, markersAfter}
-use Rattle.model.specs.Memory.{Memory, words, threadsIn, wordsOf, numbersOf, entryNumbers, configOf, entriesOf, threadRoom, markerRoom, formed, Result, stops, leaves, store, fitted, onAnswer, stepIn, try}
+use Rattle.model.specs.Memory.{Memory, words, wordsOf, numbersOf, entryNumbers, configOf, entriesOf, threadRoom, markerRoom, formed, stops, leaves, store, fitted, onAnswer, stepIn, try}
 use Rattle.model.specs.Safe.{total}
 use Rattle.model.proofs.Threads.{keep-one, keep-two, keep-all, length-bind}
 use Rattle.model.proofs.Stepped.{Meet, attempt-next}
@@ -35,7 +35,6 @@ use Rattle.arrays.proofs.Agents.{receives-kind, agent-is, no-agent, small-kind,
 use Rattle.unfolds.specs.Unfold.{unfolded}
 use Rattle.unfolds.proofs.Laws.{length-unfolded, words-unfolded}
 use Rattle.threads.specs.Threads.{remains}
-use Rattle.ready.specs.Ready.{meeting}
 use Rattle.ready.proofs.Attempts.{attempt-made}
 use Rattle.steps.proofs.Advanced.{place}
 use Rattle.steps.specs.Steps.{memory, Pair, ReadyPair, advanced, markerMade}
@@ -265,7 +264,9 @@ module _ {f : List ℕ} {t : Trailer} {l : List ℕ} {count : ℕ} {ml : List �
   }
 
   pub apart : r ≢ s
-  apart e = let z : p .kind ≡ q .kind = ap (λ (x : Record). x .kind) (ok .p-is ∙ ap (λ (x : ℕ). recordOf f t (getD l (x * W) 0)) e ∙ sym (ok .q-is)) in absurd (omega (arith, receiver-kind, sender-kind))
+  apart e =
+      let z : p .kind ≡ q .kind = ap (λ (x : Record). x .kind) (ok .p-is ∙ ap (λ (x : ℕ). recordOf f t (getD l (x * W) 0)) e ∙ sym (ok .q-is)) in
+      absurd (omega (arith, receiver-kind, sender-kind))
 
   -- the marker number of the receiver's continuation
   abbrev k : ℕ

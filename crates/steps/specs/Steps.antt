@@ -2,12 +2,12 @@
 use Prim.Native.Nat.{ℕ, _+_, _*_, _≤_, _<_}
 use mathlib.Core.Path.{_≡_}
 use mathlib.Core.Bool.{true}
-use mathlib.Core.List.{List, [], _++_, map}
-use mathlib.Core.Option.{Option, none, some}
+use mathlib.Core.List.{List, _++_, map}
+use mathlib.Core.Option.{none, some}
 use lib.Dec.{leb}
 use lib.ListN.{length, getD}
 use Rattle.model.specs.Tree.{Array, agentAt}
-use Rattle.model.specs.Calculus.{Choices, Thread, Config, Attempt, bind, keep, choicesOf, markerOf}
+use Rattle.model.specs.Calculus.{Config, Attempt, bind, keep, choicesOf, markerOf}
 use Rattle.model.specs.Numbers.{Entry, nobody}
 use Rattle.model.specs.Memory.{Memory, Result, stops, leaves, words, threadsIn, configOf, entriesOf, formed, stepIn, try}
 use Rattle.records.specs.declared.Record.{Record}

@@ -1,7 +1,5 @@
 -- The agents are read before the step; what `fire` leaves is what the turn leaves.
-use Prim.Native.Nat.{ℕ, _+_, _*_}
 use native.Mathlib.Omega.{arith}
-use mathlib.Core.Path.{_≡_, refl, sym, ap, _∙_}
 use denote.Ref.{now}
 use borrow.Author.Needs.{needs}
 use Rattle.steps.proofs.Laws.{fit}

@@ -1,11 +1,7 @@
 -- The threads are counted first: too many, and nothing is written; else the unfolding of node 0 with no name bound is written.
-use Prim.Native.Nat.{ℕ, _+_, _*_, _/_, _≤_, _<_, min}
 use native.Mathlib.Omega.{arith}
-use mathlib.Core.Path.{_≡_, refl, sym, ap, _∙_}
-use mathlib.Core.List.{List, []}
+use mathlib.Core.Path.{refl, sym}
 use denote.Ref.{now}
-use lib.ListN.{length, replicate}
-use lib.Seq.{length-take-le}
 use borrow.Author.Needs.{needs}
 use Rattle.engine.proofs.Begun.{names-bare, names-room, start-many, start-made, start-room}
 use Rattle.engine.proofs.start.Statement.{statement}

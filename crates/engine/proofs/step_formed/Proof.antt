@@ -1,7 +1,5 @@
 -- Positions past the count are 24, a pair that is not ready 25 to 27; the step of a ready pair is `fire`.
-use Prim.Native.Nat.{ℕ}
-use native.Mathlib.Omega.{arith}
-use mathlib.Core.Path.{_≡_, refl, sym, ap, _∙_}
+use mathlib.Core.Path.{refl}
 use denote.Ref.{now}
 use borrow.Author.Needs.{needs}
 use Rattle.steps.proofs.Laws.{fit}

@@ -1,6 +1,5 @@
 -- The array's answer first, then the number of choice bytes.
-use Prim.Native.Nat.{ℕ}
-use mathlib.Core.Path.{_≡_, refl, sym, ap, _∙_}
+use mathlib.Core.Path.{sym, ap, _∙_}
 use denote.Ref.{now}
 use borrow.Author.Needs.{needs}
 use Rattle.arrays.specs.declared.ArrayAnswer.the-variants as A

@@ -1,11 +1,11 @@
 -- By the array's answer, the table's, then the rules'.
-use mathlib.Core.Path.{_≡_, refl, sym, ap, _∙_, subst}
+use mathlib.Core.Path.{_≡_, sym, ap, _∙_, subst}
 use denote.Ref.{now}
 use Rattle.arrays.specs.declared.ArrayAnswer.the-variants as A
 use Rattle.arrays.specs.File.{readArray}
 use Rattle.arrays.proofs.Laws.{read-is}
 use Rattle.laws.proofs.Search.{test-clear, andThen-split}
-use Rattle.layout.specs.Table.{lengthFits, IsTable, Laid}
+use Rattle.layout.specs.Table.{lengthFits, IsTable}
 use Rattle.records.specs.Record.{foundOf}
 use Rattle.records.proofs.Checks.{passes}
 use Rattle.tables.proofs.Laws.{length-fits, passed-table}

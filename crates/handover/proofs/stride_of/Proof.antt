@@ -1,7 +1,5 @@
 -- By the cases of the turn.
-use Prim.Native.Nat.{ℕ}
-use mathlib.Core.Path.{_≡_, refl, sym, ap, _∙_}
-use denote.Ref.{now}
+use mathlib.Core.Path.{sym, ap}
 use borrow.Author.Needs.{needs}
 use Rattle.handover.specs.Engine.{strideAnswer}
 use Rattle.handover.proofs.stride_of.Statement.{statement}

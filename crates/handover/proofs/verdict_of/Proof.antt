@@ -1,7 +1,6 @@
 -- Case by case.
 use mathlib.Core.Path.{sym, ap}
 use Rattle.handover.specs.Front.{verdictOf}
-use native.Mathlib.Omega.{arith}
 use borrow.Author.Needs.{needs}
 use Rattle.handover.proofs.verdict_of.Statement.{statement}
 use Rattle.handover.proofs.verdict_of.Tie as tie

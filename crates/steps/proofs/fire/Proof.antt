@@ -1,11 +1,10 @@
 -- The records of the two agents are read; with them the pair is ready.
-use Prim.Native.Nat.{ℕ, _+_, _*_, _≤_, _<_}
+use Prim.Native.Nat.{ℕ, _+_, _*_}
 use native.Mathlib.Omega.{arith}
-use mathlib.Core.Path.{_≡_, refl, sym, ap, _∙_}
+use mathlib.Core.Path.{ap, _∙_}
 use denote.Ref.{now}
-use lib.ListN.{length, getD}
 use borrow.Author.Needs.{needs}
-use Rattle.records.specs.Record.{recordAt, recordOf}
+use Rattle.records.specs.Record.{recordAt}
 use Rattle.steps.proofs.Laws.{fit, thread-reads}
 use Rattle.steps.proofs.Advanced.{place}
 use Rattle.steps.proofs.fire.Statement.{statement}

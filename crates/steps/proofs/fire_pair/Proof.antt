@@ -1,19 +1,16 @@
 -- The threads after the step are counted first: too many, and nothing is written; a resource's step goes on its own way, an in's keeps
 -- its marker.
-use Prim.Native.Nat.{ℕ, _+_, _*_, _/_, _≤_, _<_}
+use Prim.Native.Nat.{ℕ, _≤_, _<_}
 use native.Mathlib.Omega.{arith}
-use mathlib.Core.Path.{_≡_, refl, sym, ap, _∙_}
+use mathlib.Core.Path.{_≡_, refl, _∙_}
 use mathlib.Core.Logic.{_⊎_, inl, inr, ⊎-elim}
 use mathlib.Core.Bool.{true, false, _||_}
-use mathlib.Core.List.{List}
 use denote.Ref.{now}
 use lib.Dec.{ltb}
-use lib.ListN.{length, getD}
 use borrow.Author.Needs.{needs}
 use borrow.Author.Tests.{ltb-true, ltb-false}
 use Rattle.laws.proofs.Search.{or-split, or-false}
-use Rattle.model.specs.Memory.{threadRoom}
-use Rattle.steps.proofs.Laws.{pair, few-names, ready-fit, two-threads, lefts, place-r, small-r, small-s, words-fit, same-size, receiver-kind, crowded, count-exact, count-over, in-made, in-told}
+use Rattle.steps.proofs.Laws.{pair, ready-fit, two-threads, lefts, place-r, small-r, small-s, words-fit, same-size, receiver-kind, crowded, count-exact, count-over, in-made, in-told}
 use Rattle.steps.proofs.fire_pair.Statement.{statement}
 use Rattle.steps.proofs.fire_pair.Tie as tie
 

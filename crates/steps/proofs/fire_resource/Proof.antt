@@ -10,15 +10,15 @@ use lib.Dec.{ltb}
 use borrow.Author.Tests.{ltb-true, ltb-false, not-true, not-false}
 use Rattle.laws.proofs.Search.{decided, and-split, and-join}
 use denote.Ref.{now}
-use lib.ListN.{length, getD}
+use lib.ListN.{length}
 use borrow.Author.Needs.{needs}
 use Rattle.laws.specs.Lists.{put}
 use Rattle.model.specs.Numbers as N
 use Rattle.model.specs.Numbers.{position}
-use Rattle.model.specs.Memory.{wordsOf, threadsIn, entriesIn, entryNumbers, markerRoom}
+use Rattle.model.specs.Memory.{wordsOf, threadsIn, entriesIn, entryNumbers}
 use Rattle.markers.specs.Markers.{entryOf}
 use Rattle.steps.specs.Steps.{advanced, entryAt}
-use Rattle.steps.proofs.Laws.{pair, few-names, few-listed, place-r, place-s, small-r, small-s, words-fit, same-size, found-made, found-told, added-made, added-told, unlisted}
+use Rattle.steps.proofs.Laws.{pair, few-listed, place-r, place-s, small-r, small-s, words-fit, same-size, found-made, found-told, added-made, added-told, unlisted}
 use Rattle.steps.proofs.fire_resource.Statement.{statement}
 use Rattle.steps.proofs.fire_resource.Tie as tie
 
@@ -123,10 +123,9 @@ returns c =
     let ok = p .1 .0 .0 in
     let ch = now (x .choices) in
     let eq = c .before .before .before .before .before .find-entry .ensures ∙ ap (λ (e : N.Entry). position e (entriesIn (x .listed) (now (x .markers)))) (c .before .before .before .before .before .before .before .entry-of .ensures) in
-    let at : ℕ → List ℕ = λ k. put 0 (wordsOf (advanced (now (x .file)) (x .t) ch (threadsIn (x .t .names) (x .count) (now (x .threads))) (x .r) (x .s) k (x .p) (x .q))) (now (x .threads)) in
-    (
+    let at : ℕ → List ℕ = λ k. put 0 (wordsOf (advanced (now (x .file)) (x .t) ch (threadsIn (x .t .names) (x .count) (now (x .threads))) (x .r) (x .s) k (x .p) (x .q))) (now (x .threads)) in (
       found-made read ok ch (p .1 .0 .1) _ _ (p .1 .1 .1) (omega (arith, eq, c .before .before .before .before .if1 .taken)) (c .before .before .advance-here .ensures ∙ ap (λ (k : ℕ). at (k + 1)) eq)
-      (p .1 .1 .0 ∙ same-size read ok ch _),
+          (p .1 .1 .0 ∙ same-size read ok ch _),
       ap (λ (k : ℕ). k + 1) eq ∙ found-told read ok ch (p .1 .0 .1),
     )
 
@@ -150,11 +149,10 @@ returns-2 c =
     let ch = now (x .choices) in
     let eq = c .before .before .before .before .before .before .find-entry .ensures ∙ ap (λ (e : N.Entry). position e (entriesIn (x .listed) (now (x .markers)))) (c .before .before .before .before .before .before .before .before .entry-of .ensures) in
     let added : Bool → List ℕ = λ b. cond b (put (4 * x .listed) (entryNumbers (entryOf (c .before .before .before .before .before .before .before .before .entry-of .result))) (now (x .markers))) (now (x .markers)) in
-    let none = not-true _ (c .if2 .taken) in
-    (
+    let none = not-true _ (c .if2 .taken) in (
       (
         unlisted read ok ch (p .1 .0 .1) (omega (arith, eq, c .before .before .before .before .before .if1 .left)) (full (x .listed) (length (now (x .markers))) none)
-        (le-of (p .1 .1 .0) (p .1 .1 .1)),
+            (le-of (p .1 .1 .0) (p .1 .1 .1)),
         refl,
         c .before .before .before .add-if .ensures ∙ ap added none,
       ),
@@ -217,11 +215,10 @@ returns-3 c =
     let w = 2 + x .t .names in
     let some = not-false _ (c .before .before .before .before .if2 .left) in
     let past : x .listed ≤ position (entryAt (now (x .threads)) (x .r * w) (x .s * w)) (entriesIn (x .listed) (now (x .markers))) =
-    omega (arith, eq, c .before .before .before .before .before .before .before .before .before .if1 .left) in
-    (
+    omega (arith, eq, c .before .before .before .before .before .before .before .before .before .if1 .left) in (
       added-made read ok ch (p .1 .0 .1) _ _ (p .1 .1 .1) past (room-left (x .listed) (length (now (x .markers))) some) _
-      (c .before .before .before .before .before .before .before .add-if .ensures ∙ ap added some ∙ ap (λ (e : N.Entry). put (4 * x .listed) (entryNumbers e) (now (x .markers))) (c .before .before .before .before .before .before .before .before .before .before .before .before .entry-of .ensures))
-      (c .before .before .advance-here2 .ensures) (p .1 .1 .0 ∙ same-size read ok ch _),
+          (c .before .before .before .before .before .before .before .add-if .ensures ∙ ap added some ∙ ap (λ (e : N.Entry). put (4 * x .listed) (entryNumbers e) (now (x .markers))) (c .before .before .before .before .before .before .before .before .before .before .before .before .entry-of .ensures))
+          (c .before .before .advance-here2 .ensures) (p .1 .1 .0 ∙ same-size read ok ch _),
       added-told read ok ch (p .1 .0 .1) past,
     )
 
