@@ -47,7 +47,8 @@ fn advance(
     requires { ⌜ Pair (now file) t (now threads) count r s p q × (mark < 65536) × (getD (now threads) (s * (2 + t .names) + 1) 0 < 65536) ⌝ }
     requires { ⌜ (length (now near) ≡ t .names) × (length (now far) ≡ t .names) ⌝ }
     requires { ⌜ length (wordsOf (advanced (now file) t (now choices) (threadsIn (t .names) count (now threads)) r s mark p q)) ≤ length (now threads) ⌝ }
-    ensures { λ _. ⌜ now (threads .exit) ≡ put 0 (wordsOf (advanced (now (file .entry)) t (now (choices .entry)) (threadsIn (t .names) count (now (threads .entry))) r s mark p q)) (now (threads .entry)) ⌝ }
+    ensures { λ _. ⌜ now (threads .exit)
+        ≡ put 0 (wordsOf (advanced (now (file .entry)) t (now (choices .entry)) (threadsIn (t .names) count (now (threads .entry))) r s mark p q)) (now (threads .entry)) ⌝ }
 {
     let width = 2 + t.names;
     let at = r * width;
@@ -78,7 +79,8 @@ fn advance_here(
     requires { ⌜ IsRead (now file) t × (length (now choices) ≡ 128) × (length (now table) ≡ 4096) × AllFree (now table) (arrayOf (now file) t) ⌝ }
     requires { ⌜ Pair (now file) t (now threads) count r s p q × (mark < 65536) × (getD (now threads) (s * (2 + t .names) + 1) 0 < 65536) ⌝ }
     requires { ⌜ length (wordsOf (advanced (now file) t (now choices) (threadsIn (t .names) count (now threads)) r s mark p q)) ≤ length (now threads) ⌝ }
-    ensures { λ _. ⌜ now (threads .exit) ≡ put 0 (wordsOf (advanced (now (file .entry)) t (now (choices .entry)) (threadsIn (t .names) count (now (threads .entry))) r s mark p q)) (now (threads .entry)) ⌝ }
+    ensures { λ _. ⌜ now (threads .exit)
+        ≡ put 0 (wordsOf (advanced (now (file .entry)) t (now (choices .entry)) (threadsIn (t .names) count (now (threads .entry))) r s mark p q)) (now (threads .entry)) ⌝ }
 {
     let mut near = [0u32; 256];
     let mut far = [0u32; 256];

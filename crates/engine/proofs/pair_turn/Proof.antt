@@ -136,8 +136,10 @@ returns-2 c =
     let l = now (x .threads) in
     let ml = now (x .markers) in
     let ch = now (x .choices) in
+    let at-wide = c .before .before .before .before .before .before .before .before .before .before .before .before .wide .ensures .0 in
+    let at-wide2 = c .before .before .before .before .before .before .before .before .before .before .wide2 .ensures .0 in
     turn-made f (x .t) ch l (x .count) ml (x .listed) (x .r) (x .s) _ _ _ _ _ _ (c .before .before .before .before .before .before .before .fire .ensures) (c .before .fired2 .given .1) _ _
-    (c .before .before .before .before .before .before .before .before .before .before .before .before .wide .ensures .0) (c .before .before .before .before .before .before .before .before .before .before .wide2 .ensures .0) (p .1 .0 .1) (p .1 .0 .2)
+    at-wide at-wide2 (p .1 .0 .1) (p .1 .0 .2)
 
 pub pair-turn-spec : {M : Type 1} → statement M
 pair-turn-spec =

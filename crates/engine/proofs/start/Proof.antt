@@ -44,8 +44,12 @@ unfold-node-requires c κs =
     let p = c .before .before .before .before .before .before .before .before .before .before .before .before .pre in
     let read = p .0 in
     let few = read .formed .fewNames in
-    let room = start-room (now (x .file)) (x .t) (now (x .choices)) (now (x .threads)) _ (c .before .before .before .before .before .before .before .before .count-threads .ensures) (c .before .before .before .before .before .before .if1 .left) _ (names-bare (x .t .names) few) in
-    ((read, read .formed .some, p .1, omega arith, names-room (x .t .names) few), ((c .before .before .before .before .fill-frees .kept .0, c .before .before .before .before .fill-frees .ensures), room))
+    let at-count-threads = c .before .before .before .before .before .before .before .before .count-threads .ensures in
+    let at-if1 = c .before .before .before .before .before .before .if1 .left in
+    let room = start-room (now (x .file)) (x .t) (now (x .choices)) (now (x .threads)) _ at-count-threads at-if1 _ (names-bare (x .t .names) few) in
+    let at-fill-frees = c .before .before .before .before .fill-frees .kept .0 in
+    let at-fill-frees-4 = c .before .before .before .before .fill-frees .ensures in
+    ((read, read .formed .some, p .1, omega arith, names-room (x .t .names) few), ((at-fill-frees, at-fill-frees-4), room))
 
 same-length : tie.Need-same-length
 same-length c = search needs
@@ -55,7 +59,9 @@ returns-2 c =
     let x = c .before .before .before .before .before .before .before .before .before .before .before .before .before .before .before .before .args in
     let p = c .before .before .before .before .before .before .before .before .before .before .before .before .before .before .before .before .pre in
     let read = p .0 in
-    start-made (now (x .file)) (x .t) (now (x .choices)) (now (x .threads)) _ (c .before .before .before .before .before .before .before .before .before .before .before .before .count-threads .ensures) (c .before .before .before .before .before .before .before .before .before .before .if1 .left) _
+    let at-count-threads = c .before .before .before .before .before .before .before .before .before .before .before .before .count-threads .ensures in
+    let at-if1 = c .before .before .before .before .before .before .before .before .before .before .if1 .left in
+    start-made (now (x .file)) (x .t) (now (x .choices)) (now (x .threads)) _ at-count-threads at-if1 _
     (names-bare (x .t .names) (read .formed .fewNames)) _ (c .before .before .before .unfold-node .ensures .written)
 
 pub start-spec : {M : Type 1} → statement M

@@ -44,7 +44,11 @@ step-formed-requires c κs =
     let x = c .before .before .before .before .before .before .before .before .before .before .before .before .before .before .before .args in
     let p = c .before .before .before .before .before .before .before .before .before .before .before .before .before .before .before .pre in
     let read = p .0 in
-    ((read, p .1, c .before .before .before .before .before .before .before .before .before .fill-frees .kept .0, c .before .before .before .before .before .before .before .before .before .fill-frees .ensures), sym (c .before .before .before .before .well-formed .ensures) ∙ not-false _ (c .before .before .before .if1 .left))
+    let at-fill-frees = c .before .before .before .before .before .before .before .before .before .fill-frees .kept .0 in
+    let at-fill-frees-2 = c .before .before .before .before .before .before .before .before .before .fill-frees .ensures in
+    let at-well-formed = c .before .before .before .before .well-formed .ensures in
+    let at-if1 = c .before .before .before .if1 .left in
+    ((read, p .1, at-fill-frees, at-fill-frees-2), sym at-well-formed ∙ not-false _ at-if1)
 
 same-length-3 : tie.Need-same-length-3
 same-length-3 c = search needs
@@ -58,7 +62,9 @@ returns-2 c =
     let p = c .before .before .before .before .before .before .before .before .before .before .before .before .before .before .before .before .before .before .before .before .pre in
     let read = p .0 in
     let e = checked-step (arrayOf (now (x .file)) (x .t)) (memory (now (x .threads)) (x .count) (now (x .markers)) (x .listed)) (try (choicesOf (now (x .choices))) (x .r) (x .s))
-    (sym (c .before .before .before .before .before .before .before .before .before .well-formed .ensures) ∙ not-false _ (c .before .before .before .before .before .before .before .before .if1 .left)) in
+    let at-well-formed = c .before .before .before .before .before .before .before .before .before .well-formed .ensures in
+    let at-if1 = c .before .before .before .before .before .before .before .before .if1 .left in
+    (sym at-well-formed ∙ not-false _ at-if1) in
     rw e (c .before .before .before .before .step-formed .ensures)
 
 pub step-spec : {M : Type 1} → statement M

@@ -55,9 +55,10 @@ fire-requires c κs =
     let l = now (x .threads) in
     let ml = now (x .markers) in
     let ch = now (x .choices) in
+    let at-pair-refusal = c .before .before .before .pair-refusal .ensures in
     let b = inside f (x .t) read l (x .count) ml (x .listed) ch (x .r) (x .s) (c .before .before .before .before .before .if1 .left) in (
       p .0,
-      ((p .1, b .0, b .1), meets-at f (x .t) read l (x .count) ml (x .listed) ch (x .r) (x .s) (b .0) (b .1) _ (c .before .before .before .pair-refusal .ensures) (c .before .before .if2 .left)),
+      ((p .1, b .0, b .1), meets-at f (x .t) read l (x .count) ml (x .listed) ch (x .r) (x .s) (b .0) (b .1) _ at-pair-refusal (c .before .before .if2 .left)),
     )
 
 same-length-2 : tie.Need-same-length-2

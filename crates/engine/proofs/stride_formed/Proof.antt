@@ -38,8 +38,9 @@ returns c =
     let l = now (x .threads) in
     let ml = now (x .markers) in
     let ch = now (x .choices) in
+    let at-first-ready = c .before .before .before .before .first-ready .ensures in
     let cs = choicesOf ch in (
-      stride-spent f (x .t) read l (x .count) ml (x .listed) cs (x .done) _ (c .before .before .before .before .first-ready .ensures cs) _ _ (c .before .before .found .given .1) (c .if1 .taken),
+      stride-spent f (x .t) read l (x .count) ml (x .listed) cs (x .done) _ (at-first-ready cs) _ _ (c .before .before .found .given .1) (c .if1 .taken),
       refl,
       refl,
     )
@@ -54,7 +55,9 @@ pair-turn-requires c κs =
     let ml = now (x .markers) in
     let ch = now (x .choices) in
     let cs = choicesOf ch in
-    let b = pair-ready f (x .t) read l (x .count) ml (x .listed) cs (x .done) _ (c .before .before .before .before .before .before .first-ready .ensures cs) _ _ (c .before .before .before .before .found .given .1) in
+    let at-first-ready = c .before .before .before .before .before .before .first-ready .ensures in
+    let at-found = c .before .before .before .before .found .given .1 in
+    let b = pair-ready f (x .t) read l (x .count) ml (x .listed) cs (x .done) _ (at-first-ready cs) _ _ at-found in
     (p .0, ((p .1, b .0, b .1), b .2))
 
 same-length-2 : tie.Need-same-length-2
@@ -88,7 +91,10 @@ returns-3 c =
     let ml = now (x .markers) in
     let ch = now (x .choices) in
     let cs = choicesOf ch in
-    let e = stride-turn f (x .t) read l (x .count) ml (x .listed) cs (x .done) _ (c .before .before .before .before .before .before .before .before .before .before .before .first-ready .ensures cs) _ _ (c .before .before .before .before .before .before .before .before .before .found .given .1) (c .before .before .before .before .before .before .before .if1 .left) in
+    let at-first-ready = c .before .before .before .before .before .before .before .before .before .before .before .first-ready .ensures in
+    let at-found = c .before .before .before .before .before .before .before .before .before .found .given .1 in
+    let at-if1 = c .before .before .before .before .before .before .before .if1 .left in
+    let e = stride-turn f (x .t) read l (x .count) ml (x .listed) cs (x .done) _ (at-first-ready cs) _ _ at-found at-if1 in
     rw e (c .before .before .before .before .pair-turn .ensures)
 
 pub stride-formed-spec : {M : Type 1} → statement M

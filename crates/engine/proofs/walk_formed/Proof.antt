@@ -64,7 +64,8 @@ returns c =
     let m₀ = memory (now (x .threads)) (x .count) (now (x .markers)) (x .listed) in
     let n = x .allowed - l .allowance .left in
     let m = memory (l .threads) (l .used) (l .markers) (l .noted) in
-    walk-ends a ch (x .allowed) m₀ n (l .allowance .left) m (l .inv .4) _ _ _ (c .before .before .before .before .before .before .before .stride-formed .ensures) _ (c .before .stride .given .1)
+    let at-stride-formed = c .before .before .before .before .before .before .before .stride-formed .ensures in
+    walk-ends a ch (x .allowed) m₀ n (l .allowance .left) m (l .inv .4) _ _ _ at-stride-formed _ (c .before .stride .given .1)
 
 enum-known-stride-2 : tie.Need-enum-known-stride-2 Inv-loop μ-loop
 enum-known-stride-2 c = search needs
@@ -79,7 +80,8 @@ spend-requires c κs =
     let m₀ = memory (now (x .threads)) (x .count) (now (x .markers)) (x .listed) in
     let n = x .allowed - l .allowance .left in
     let m = memory (l .threads) (l .used) (l .markers) (l .noted) in
-    walk-allowed a ch (x .allowed) m₀ n (l .allowance .left) m (l .inv .4) _ _ _ (c .before .before .before .before .before .before .before .stride-formed .ensures) _ (c .before .stride2 .given .1)
+    let at-stride-formed = c .before .before .before .before .before .before .before .stride-formed .ensures in
+    walk-allowed a ch (x .allowed) m₀ n (l .allowance .left) m (l .inv .4) _ _ _ at-stride-formed _ (c .before .stride2 .given .1)
 
 loop-less : tie.Need-loop-less Inv-loop μ-loop
 loop-less c = omega (arith, c .spend .ensures)

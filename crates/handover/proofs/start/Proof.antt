@@ -44,7 +44,9 @@ returns-2 c =
     let x = c .before .before .before .before .before .before .before .before .before .before .before .before .before .before .before .args in
     let f = now (x .array) in
     let ch = now (x .choices) in
-    let a = admitted f ch _ (c .before .before .before .before .before .before .before .before .before .before .before .admit .ensures) _ (c .before .before .before .before .before .before .before .before .before .admitted2 .given .1) in
+    let at-admit = c .before .before .before .before .before .before .before .before .before .before .before .admit .ensures in
+    let at-admitted2 = c .before .before .before .before .before .before .before .before .before .admitted2 .given .1 in
+    let a = admitted f ch _ at-admit _ at-admitted2 in
     rw (c .numbered .ensures) (start-stopped f ch _ a (now (x .threads)) _ _ (c .before .before .before .before .before .before .start .ensures) _ (c .before .before .fired .given .1))
 
 same-length-2 : tie.Need-same-length-2
@@ -55,7 +57,9 @@ returns-3 c =
     let x = c .before .before .before .before .before .before .before .before .before .before .before .before .before .before .args in
     let f = now (x .array) in
     let ch = now (x .choices) in
-    let a = admitted f ch _ (c .before .before .before .before .before .before .before .before .before .before .admit .ensures) _ (c .before .before .before .before .before .before .before .before .admitted2 .given .1) in
+    let at-admit = c .before .before .before .before .before .before .before .before .before .before .admit .ensures in
+    let at-admitted2 = c .before .before .before .before .before .before .before .before .admitted2 .given .1 in
+    let a = admitted f ch _ at-admit _ at-admitted2 in
     start-started f ch _ a (now (x .threads)) _ _ (c .before .before .before .before .before .start .ensures) _ _ _ (c .before .fired2 .given .1)
 
 pub start-spec : {M : Type 1} → statement M

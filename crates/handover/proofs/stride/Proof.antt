@@ -39,7 +39,8 @@ returns c =
     let x = c .before .before .before .before .before .before .before .before .args in
     let f = now (x .array) in
     let ch = now (x .choices) in
-    stride-not f ch _ (not-admitted f ch _ (c .before .before .before .admit .ensures) _ (c .before .admitted .given .1)) (now (x .threads)) (x .thread-count) (now (x .markers)) (x .marker-count)
+    let at-admit = c .before .before .before .admit .ensures in
+    stride-not f ch _ (not-admitted f ch _ at-admit _ (c .before .admitted .given .1)) (now (x .threads)) (x .thread-count) (now (x .markers)) (x .marker-count)
 
 same-length : tie.Need-same-length
 same-length c = search needs
@@ -52,8 +53,11 @@ returns-2 c =
     let x = c .before .before .before .before .before .before .before .before .before .before .before .before .before .before .before .before .before .before .before .args in
     let f = now (x .array) in
     let ch = now (x .choices) in
-    let a = admitted f ch _ (c .before .before .before .before .before .before .before .before .before .before .before .before .before .before .admit .ensures) _ (c .before .before .before .before .before .before .before .before .before .before .before .before .admitted2 .given .1) in
-    rw (c .numbered .ensures) (stride-stopped f ch _ a (now (x .threads)) (x .thread-count) (now (x .markers)) (x .marker-count) _ _ _ (c .before .before .before .before .before .before .before .before .next-turn .ensures) _ (c .before .before .strode .given .1))
+    let at-admit = c .before .before .before .before .before .before .before .before .before .before .before .before .before .before .admit .ensures in
+    let at-admitted2 = c .before .before .before .before .before .before .before .before .before .before .before .before .admitted2 .given .1 in
+    let a = admitted f ch _ at-admit _ at-admitted2 in
+    let at-next-turn = c .before .before .before .before .before .before .before .before .next-turn .ensures in
+    rw (c .numbered .ensures) (stride-stopped f ch _ a (now (x .threads)) (x .thread-count) (now (x .markers)) (x .marker-count) _ _ _ at-next-turn _ (c .before .before .strode .given .1))
 
 same-length-3 : tie.Need-same-length-3
 same-length-3 c = search needs
@@ -66,8 +70,11 @@ returns-3 c =
     let x = c .before .before .before .before .before .before .before .before .before .before .before .before .before .before .before .before .before .before .before .args in
     let f = now (x .array) in
     let ch = now (x .choices) in
-    let a = admitted f ch _ (c .before .before .before .before .before .before .before .before .before .before .before .before .before .before .admit .ensures) _ (c .before .before .before .before .before .before .before .before .before .before .before .before .admitted2 .given .1) in
-    rw (c .stride-of .ensures) (stride-strode f ch _ a (now (x .threads)) (x .thread-count) (now (x .markers)) (x .marker-count) _ _ _ (c .before .before .before .before .before .before .before .before .next-turn .ensures) _ (c .before .before .strode2 .given .1))
+    let at-admit = c .before .before .before .before .before .before .before .before .before .before .before .before .before .before .admit .ensures in
+    let at-admitted2 = c .before .before .before .before .before .before .before .before .before .before .before .before .admitted2 .given .1 in
+    let a = admitted f ch _ at-admit _ at-admitted2 in
+    let at-next-turn = c .before .before .before .before .before .before .before .before .next-turn .ensures in
+    rw (c .stride-of .ensures) (stride-strode f ch _ a (now (x .threads)) (x .thread-count) (now (x .markers)) (x .marker-count) _ _ _ at-next-turn _ (c .before .before .strode2 .given .1))
 
 pub stride-spec : {M : Type 1} → statement M
 stride-spec =

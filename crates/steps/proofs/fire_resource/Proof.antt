@@ -122,9 +122,12 @@ returns c =
     let read = p .0 .0 in
     let ok = p .1 .0 .0 in
     let ch = now (x .choices) in
-    let eq = c .before .before .before .before .before .find-entry .ensures ∙ ap (λ (e : N.Entry). position e (entriesIn (x .listed) (now (x .markers)))) (c .before .before .before .before .before .before .before .entry-of .ensures) in
+    let at-find-entry = c .before .before .before .before .before .find-entry .ensures in
+    let at-entry-of = c .before .before .before .before .before .before .before .entry-of .ensures in
+    let eq = at-find-entry ∙ ap (λ (e : N.Entry). position e (entriesIn (x .listed) (now (x .markers)))) at-entry-of in
+    let at-if1 = c .before .before .before .before .if1 .taken in
     let at : ℕ → List ℕ = λ k. put 0 (wordsOf (advanced (now (x .file)) (x .t) ch (threadsIn (x .t .names) (x .count) (now (x .threads))) (x .r) (x .s) k (x .p) (x .q))) (now (x .threads)) in (
-      found-made read ok ch (p .1 .0 .1) _ _ (p .1 .1 .1) (omega (arith, eq, c .before .before .before .before .if1 .taken)) (c .before .before .advance-here .ensures ∙ ap (λ (k : ℕ). at (k + 1)) eq)
+      found-made read ok ch (p .1 .0 .1) _ _ (p .1 .1 .1) (omega (arith, eq, at-if1)) (c .before .before .advance-here .ensures ∙ ap (λ (k : ℕ). at (k + 1)) eq)
           (p .1 .1 .0 ∙ same-size read ok ch _),
       ap (λ (k : ℕ). k + 1) eq ∙ found-told read ok ch (p .1 .0 .1),
     )
@@ -147,8 +150,11 @@ returns-2 c =
     let read = p .0 .0 in
     let ok = p .1 .0 .0 in
     let ch = now (x .choices) in
-    let eq = c .before .before .before .before .before .before .find-entry .ensures ∙ ap (λ (e : N.Entry). position e (entriesIn (x .listed) (now (x .markers)))) (c .before .before .before .before .before .before .before .before .entry-of .ensures) in
-    let added : Bool → List ℕ = λ b. cond b (put (4 * x .listed) (entryNumbers (entryOf (c .before .before .before .before .before .before .before .before .entry-of .result))) (now (x .markers))) (now (x .markers)) in
+    let at-find-entry = c .before .before .before .before .before .before .find-entry .ensures in
+    let at-entry-of = c .before .before .before .before .before .before .before .before .entry-of .ensures in
+    let eq = at-find-entry ∙ ap (λ (e : N.Entry). position e (entriesIn (x .listed) (now (x .markers)))) at-entry-of in
+    let at-entry-of-3 = c .before .before .before .before .before .before .before .before .entry-of .result in
+    let added : Bool → List ℕ = λ b. cond b (put (4 * x .listed) (entryNumbers (entryOf at-entry-of-3)) (now (x .markers))) (now (x .markers)) in
     let none = not-true _ (c .if2 .taken) in (
       (
         unlisted read ok ch (p .1 .0 .1) (omega (arith, eq, c .before .before .before .before .before .if1 .left)) (full (x .listed) (length (now (x .markers))) none)
@@ -210,14 +216,18 @@ returns-3 c =
     let read = p .0 .0 in
     let ok = p .1 .0 .0 in
     let ch = now (x .choices) in
-    let eq = c .before .before .before .before .before .before .before .before .before .before .find-entry .ensures ∙ ap (λ (e : N.Entry). position e (entriesIn (x .listed) (now (x .markers)))) (c .before .before .before .before .before .before .before .before .before .before .before .before .entry-of .ensures) in
-    let added : Bool → List ℕ = λ b. cond b (put (4 * x .listed) (entryNumbers (entryOf (c .before .before .before .before .before .before .before .before .before .before .before .before .entry-of .result))) (now (x .markers))) (now (x .markers)) in
+    let at-find-entry = c .before .before .before .before .before .before .before .before .before .before .find-entry .ensures in
+    let at-entry-of = c .before .before .before .before .before .before .before .before .before .before .before .before .entry-of .ensures in
+    let eq = at-find-entry ∙ ap (λ (e : N.Entry). position e (entriesIn (x .listed) (now (x .markers)))) at-entry-of in
+    let at-entry-of-3 = c .before .before .before .before .before .before .before .before .before .before .before .before .entry-of .result in
+    let added : Bool → List ℕ = λ b. cond b (put (4 * x .listed) (entryNumbers (entryOf at-entry-of-3)) (now (x .markers))) (now (x .markers)) in
+    let at-add-if = c .before .before .before .before .before .before .before .add-if .ensures in
     let w = 2 + x .t .names in
     let some = not-false _ (c .before .before .before .before .if2 .left) in
     let past : x .listed ≤ position (entryAt (now (x .threads)) (x .r * w) (x .s * w)) (entriesIn (x .listed) (now (x .markers))) =
     omega (arith, eq, c .before .before .before .before .before .before .before .before .before .if1 .left) in (
       added-made read ok ch (p .1 .0 .1) _ _ (p .1 .1 .1) past (room-left (x .listed) (length (now (x .markers))) some) _
-          (c .before .before .before .before .before .before .before .add-if .ensures ∙ ap added some ∙ ap (λ (e : N.Entry). put (4 * x .listed) (entryNumbers e) (now (x .markers))) (c .before .before .before .before .before .before .before .before .before .before .before .before .entry-of .ensures))
+          (at-add-if ∙ ap added some ∙ ap (λ (e : N.Entry). put (4 * x .listed) (entryNumbers e) (now (x .markers))) at-entry-of)
           (c .before .before .advance-here2 .ensures) (p .1 .1 .0 ∙ same-size read ok ch _),
       added-told read ok ch (p .1 .0 .1) past,
     )
