@@ -48,7 +48,7 @@ use Rattle.handover.specs.Engine.{startOf, stepOf, walkOf, turnLeft, fou
 
 -- ---- refusals 1 to 12 and 22
 
-reads : (f : List ℕ) → arrayRefusal f ≡ clear → readArray f ≡ A.Read (trailerOf f)
+pub reads : (f : List ℕ) → arrayRefusal f ≡ clear → readArray f ≡ A.Read (trailerOf f)
 unfolding readArray
 reads f c = ap (λ (y : Found F.Refusal). answer y (trailerOf f)) c
 

@@ -1,0 +1,43 @@
+-- By the answer: the ending with the counts, or the refusal.
+use Prim.Native.Nat.{ℕ}
+use mathlib.Core.Path.{sym, ap, _∙_, subst}
+use native.Mathlib.Omega.{arith}
+use borrow.Author.Needs.{needs}
+use Rattle.handover.specs.declared.WalkAnswer.{WalkAnswer}
+use Rattle.handover.specs.Engine.{saysWalk}
+use Rattle.handover_c.specs.Packed.{packedReply, counted, FitsReply}
+use Rattle.handover_c.proofs.pack_walk.Statement.{statement}
+use Rattle.handover_c.proofs.pack_walk.Tie as tie
+
+enum-known-x : tie.Need-enum-known-x
+enum-known-x c = search needs
+
+ending-code-requires : tie.Need-ending-code-requires
+ending-code-requires c κs = search needs
+
+pack-counts-requires : tie.Need-pack-counts-requires
+pack-counts-requires c κs = let h = subst (λ (y : WalkAnswer). FitsReply (saysWalk y)) (c .before .before .x .given .1) (c .before .before .before .before .pre) in (omega (arith, c .ending-code .ensures .1), h .0)
+
+enum-known-x-2 : tie.Need-enum-known-x-2
+enum-known-x-2 c = search needs
+
+pack-refusal-requires : tie.Need-pack-refusal-requires
+pack-refusal-requires c κs = subst (λ (y : WalkAnswer). FitsReply (saysWalk y)) (c .before .x2 .given .1) (c .before .before .before .pre)
+
+returns : tie.Need-returns
+returns c = let w = c .before .before .before .x .given .0 .0 in c .pack-counts .ensures ∙ ap (λ (e : ℕ). counted e (w .threads) (w .markers) (w .steps)) (c .before .ending-code .ensures .0) ∙ ap (λ (y : WalkAnswer). packedReply (saysWalk y)) (sym (c .before .before .before .x .given .1))
+
+returns-2 : tie.Need-returns-2
+returns-2 c = c .pack-refusal .ensures ∙ ap (λ (y : WalkAnswer). packedReply (saysWalk y)) (sym (c .before .before .x2 .given .1))
+
+pub pack-walk-spec : {M : Type 1} → statement M
+pack-walk-spec =
+    tie.close
+    (tie.spec
+    enum-known-x
+    ending-code-requires
+    pack-counts-requires
+    enum-known-x-2
+    pack-refusal-requires
+    returns
+    returns-2)
