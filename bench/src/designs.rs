@@ -1,0 +1,125 @@
+//! The designs of the checker: array and table. Each has weight 1 for every agent in K balances of bound 2,
+//! 256 claims where K isn't 0, and is held, but for `broken`; so every live pair is looked at.
+
+use crate::files::{
+    array_file, chain, record, table_file, Agent, Balance, Record, IN, NEW, OUT, PAR,
+};
+
+pub struct Files {
+    pub array: Vec<u8>,
+    pub table: Vec<u8>,
+    pub nodes: usize,
+    pub names: usize,
+    pub balances: usize,
+}
+
+/// News for the first names, then two chains side by side.
+fn two_chains(news: usize, receivers: &[Agent], senders: &[Agent]) -> Vec<Record> {
+    let mut records: Vec<Record> = (0..news)
+        .map(|name| record(NEW, name + 1, 0, name, &[]))
+        .collect();
+    records.push(record(PAR, news + 1, news + 2 + receivers.len(), 0, &[]));
+    chain(&mut records, receivers);
+    chain(&mut records, senders);
+    records
+}
+
+fn ones(records: &[Record], bound: u32) -> Balance {
+    let weights = records
+        .iter()
+        .map(|record| u16::from(record[0] >= OUT))
+        .collect();
+    Balance { bound, weights }
+}
+
+fn files(records: &[Record], rows: &[[u64; 4]], balances: &[Balance]) -> Files {
+    let array = array_file(records, rows.len());
+    let agents: Vec<usize> = (0..records.len())
+        .filter(|i| records[*i][0] >= OUT)
+        .collect();
+    let count = if balances.is_empty() { 0 } else { 256 };
+    let claim = |c: usize| {
+        [
+            agents[c % agents.len()] as u16,
+            u16::MAX,
+            (c % balances.len()) as u16,
+        ]
+    };
+    let claims: Vec<[u16; 3]> = (0..count).map(claim).collect();
+    let table = table_file(&array, rows, balances, &claims);
+    Files {
+        array,
+        table,
+        nodes: records.len(),
+        names: rows.len(),
+        balances: balances.len(),
+    }
+}
+
+fn held(records: &[Record], rows: &[[u64; 4]], balances: usize) -> Files {
+    let balances: Vec<Balance> = (0..balances).map(|_| ones(records, 2)).collect();
+    files(records, rows, &balances)
+}
+
+/// A row with one mark.
+fn row(name: usize) -> [u64; 4] {
+    let mut row = [0; 4];
+    row[name / 64] = 1 << (name % 64);
+    row
+}
+
+/// Half receivers, half senders, arity 0, on one channel: every pair is live.
+pub fn pairs(nodes: usize, balances: usize) -> Files {
+    let count = (nodes - 4) / 2;
+    let receivers = vec![(IN, 0, vec![]); count];
+    let senders = vec![(OUT, 0, vec![]); nodes - 4 - count];
+    held(&two_chains(1, &receivers, &senders), &[row(0)], balances)
+}
+
+/// The same, but each pair on one of `channels` channels with rows of their own: few pairs are live.
+pub fn sparse(nodes: usize, channels: usize, balances: usize) -> Files {
+    let room = nodes - 3 - channels;
+    let agent = |kind| move |i| (kind, i % channels, vec![]);
+    let receivers: Vec<Agent> = (0..room / 2).map(agent(IN)).collect();
+    let senders: Vec<Agent> = (0..room - room / 2).map(agent(OUT)).collect();
+    let rows: Vec<[u64; 4]> = (0..channels).map(row).collect();
+    held(&two_chains(channels, &receivers, &senders), &rows, balances)
+}
+
+/// Receivers of arity 8, as many as the names allow beside 8 news, then senders of arity 8 that send every
+/// parameter in turn. All rows are full and every pair is live.
+pub fn arguments(nodes: usize, names: usize, balances: usize) -> Files {
+    let count = names / 8 - 1;
+    let mut records: Vec<Record> = (0..8)
+        .map(|name| record(NEW, name + 1, 0, name, &[]))
+        .collect();
+    let params = |i: usize| (8 * i + 8..8 * i + 16).map(|v| v as u8).collect();
+    let sent = |i: usize| {
+        (0..8)
+            .map(|k| (8 + (8 * i + 5 * k) % (8 * count)) as u8)
+            .collect()
+    };
+    let mut agents: Vec<Agent> = (0..count).map(|i| (IN, 0, params(i))).collect();
+    agents.extend((0..nodes - 9 - count).map(|i| (OUT, 0, sent(i))));
+    chain(&mut records, &agents);
+    held(&records, &vec![[255, 0, 0, 0]; names], balances)
+}
+
+/// `pairs` with a second channel that no one sends on. Only the last live pair breaks rule 4, in the last
+/// balance: there the weights of the receivers fall by one each, and what follows the last sender weighs one
+/// more than it.
+pub fn broken(nodes: usize, balances: usize) -> Files {
+    let count = (nodes - 7) / 2;
+    let mut receivers = vec![(IN, 0, vec![]); count];
+    let mut senders = vec![(OUT, 0, vec![]); nodes - 7 - count];
+    receivers.push((IN, 1, vec![]));
+    senders.push((IN, 1, vec![]));
+    let records = two_chains(2, &receivers, &senders);
+    let mut balances: Vec<Balance> = (0..balances).map(|_| ones(&records, 2)).collect();
+    if let Some(last) = balances.last_mut() {
+        last.bound = count as u32 + 2;
+        (0..count).for_each(|i| last.weights[3 + i] = (count - i) as u16);
+        last.weights[records.len() - 2] = 2;
+    }
+    files(&records, &[row(0), row(1)], &balances)
+}

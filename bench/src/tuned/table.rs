@@ -1,0 +1,146 @@
+//! Reads a table file: refusals 13 to 21.
+
+use super::array::Array;
+use super::{refusal, u16_at, u32_at, u64_at, word_sum, Row};
+
+/// A table file that was read for an array.
+pub struct Table<'a> {
+    file: &'a [u8],
+    pub balances: usize,
+    pub claims: usize,
+    balance_size: usize,
+    balances_at: usize,
+    claims_at: usize,
+}
+
+/// A claim's numbers.
+#[derive(Clone, Copy)]
+pub struct Claim {
+    pub agent: usize,
+    pub most: u64,
+    pub balance: usize,
+    last: u64,
+}
+
+impl Table<'_> {
+    /// Safety: name is below N; so for balance and claim numbers and nodes below.
+    #[inline(always)]
+    pub unsafe fn row(&self, name: usize) -> Row {
+        [0, 8, 16, 24].map(|at| u64_at(self.file, 32 * name + at))
+    }
+
+    pub unsafe fn bound(&self, k: usize) -> u32 {
+        u32_at(self.file, self.balances_at + k * self.balance_size)
+    }
+
+    #[inline(always)]
+    pub unsafe fn weight(&self, k: usize, node: usize) -> u16 {
+        u16_at(
+            self.file,
+            self.balances_at + k * self.balance_size + 4 + 2 * node,
+        )
+    }
+
+    pub unsafe fn claim(&self, c: usize) -> Claim {
+        let word = u64_at(self.file, self.claims_at + 8 * c);
+        Claim {
+            agent: (word & 0xffff) as usize,
+            most: word >> 16 & 0xffff,
+            balance: (word >> 32 & 0xffff) as usize,
+            last: word >> 48,
+        }
+    }
+}
+
+pub fn read<'a>(array: &Array, file: &'a [u8]) -> Result<Table<'a>, u64> {
+    let table = frame(array, file)?;
+    unsafe {
+        check_rows(array, &table)?;
+        check_balances(array, &table)?;
+        check_claims(array, &table)?;
+    }
+    Ok(table)
+}
+
+/// Refusals 13 to 18.
+fn frame<'a>(array: &Array, file: &'a [u8]) -> Result<Table<'a>, u64> {
+    let len = file.len();
+    if !(28..=59_516).contains(&len) || !len.is_multiple_of(4) {
+        return Err(refusal(13, 0));
+    }
+    unsafe {
+        if u32_at(file, len - 4) != u32::from_le_bytes(*b"PIC1") {
+            return Err(refusal(14, 0));
+        }
+        let balances = usize::from(u16_at(file, len - 16));
+        let claims = usize::from(u16_at(file, len - 14));
+        if balances > 24 || claims > 256 {
+            return Err(refusal(15, 0));
+        }
+        let balance_size = 4 + 2 * (array.nodes + array.nodes % 2);
+        let balances_at = 32 * array.names;
+        let claims_at = balances_at + balances * balance_size;
+        let starts = [28, 24, 20].map(|back| u32_at(file, len - back) as usize);
+        if starts != [0, balances_at, claims_at] || claims_at + 8 * claims + 28 != len {
+            return Err(refusal(16, 0));
+        }
+        if word_sum(file, len - 8) != u32_at(file, len - 8) {
+            return Err(refusal(17, 0));
+        }
+        if u32_at(file, len - 12) != array.sum {
+            return Err(refusal(18, 0));
+        }
+        Ok(Table {
+            file,
+            balances,
+            claims,
+            balance_size,
+            balances_at,
+            claims_at,
+        })
+    }
+}
+
+/// Refusal 19.
+unsafe fn check_rows(array: &Array, table: &Table) -> Result<(), u64> {
+    for v in 0..array.names {
+        let row = table.row(v);
+        let outside = (0..4).fold(0, |bits, w| bits | row[w] & !array.opened[w]);
+        if outside != 0 {
+            return Err(refusal(19, v));
+        }
+    }
+    Ok(())
+}
+
+/// Refusal 20. Weights are taken together: all bits that a node may not have, over a whole balance.
+unsafe fn check_balances(array: &Array, table: &Table) -> Result<(), u64> {
+    let padded = array.nodes + array.nodes % 2;
+    let mut barred = [u16::MAX; 1024];
+    for i in 0..array.nodes {
+        if array.node(i).is_agent() {
+            *barred.get_unchecked_mut(i) = 0;
+        }
+    }
+    for k in 0..table.balances {
+        let bits = (0..padded).fold(0, |bits, i| {
+            bits | table.weight(k, i) & *barred.get_unchecked(i)
+        });
+        if bits != 0 {
+            return Err(refusal(20, k));
+        }
+    }
+    Ok(())
+}
+
+/// Refusal 21.
+unsafe fn check_claims(array: &Array, table: &Table) -> Result<(), u64> {
+    for c in 0..table.claims {
+        let claim = table.claim(c);
+        let agent = claim.agent < array.nodes && array.node(claim.agent).is_agent();
+        if !agent || claim.balance >= table.balances || claim.last != 0 {
+            return Err(refusal(21, c));
+        }
+    }
+    Ok(())
+}

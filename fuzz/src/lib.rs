@@ -1,0 +1,48 @@
+//! libFuzzer's entry. An input is read as two files and a list of calls; each call is made of the C entry and of the plain version, and the
+//! answers and every word of both lists must agree. A difference panics, which libFuzzer reports with the input.
+//!
+//! An input: a byte of flags, then the array and the table, each with its length in two bytes, then the lengths of the thread list and the
+//! marker list in two bytes each and a byte to fill them with, then calls. What an input lacks reads as zeros, so every input is one.
+
+mod calls;
+mod input;
+
+use input::Input;
+use outside::{files, packed};
+
+/// The word sums are made right, so that what comes after them is reached.
+const REPAIR_ARRAY: u8 = 1;
+const REPAIR_TABLE: u8 = 2;
+
+/// # Safety
+/// `data` points at `length` bytes.
+#[no_mangle]
+pub unsafe extern "C" fn LLVMFuzzerTestOneInput(data: *const u8, length: usize) -> i32 {
+    // An empty input may come without a pointer.
+    let data = if length == 0 { &[] } else { std::slice::from_raw_parts(data, length) };
+    compare(Input(data));
+    0
+}
+
+fn compare(mut input: Input) {
+    let flags = input.byte();
+    let mut array = input.file();
+    let mut table = input.file();
+    if flags & REPAIR_ARRAY != 0 {
+        files::repair(&mut array);
+    }
+    if flags & REPAIR_TABLE != 0 {
+        name_array(&array, &mut table);
+        files::repair(&mut table);
+    }
+    assert_eq!(handover::remark(&array), plain::remark(&array).len(), "the remark's length");
+    assert_eq!(handover::check(&array, &table), packed::verdict(&plain::check(&array, &table)), "the verdict");
+    calls::compare(&array, input);
+}
+
+/// Copies the array's word sum to the place in the table's trailer that names it.
+fn name_array(array: &[u8], table: &mut [u8]) {
+    if let (Some(from), Some(to)) = (array.len().checked_sub(8), table.len().checked_sub(12)) {
+        table[to..to + 4].copy_from_slice(&array[from..from + 4]);
+    }
+}
