@@ -43,7 +43,8 @@ uint64_t handover_check(const uint8_t *array, size_t array_len, const uint8_t *t
  *   1    spent (walk: the allowed steps are made and a pair is ready)
  *   2    full (walk: the next step does not fit into the lists)
  *   100 + the refusal's number
- * plus 2^8 times the thread count, 2^18 times the marker count and 2^32 times the steps made; after a refusal 2^8 times the place alone.
+ * plus 2^8 times the thread count, 2^18 times the marker count and 2^32 times the steps made (0 by a start, 1 by a step); after a refusal
+ * 2^8 times the place alone.
  *
  * A thread takes 2 + N words of `threads`: its node, its marker's number, then for each of the N names 0 where it is not free in the
  * thread's agent, else 1 + 65536 * new + the number of the opening's marker. Marker 0 is empty; marker i takes four numbers of
@@ -51,13 +52,13 @@ uint64_t handover_check(const uint8_t *array, size_t array_len, const uint8_t *t
  * are shorter. Words past the used ones keep their content.
  */
 
-/* Writes the start of the array under `choices` into `threads`. It uses no marker. Refusals 1 to 12, 22, 28. Steps made: 0. */
+/* Writes the start of the array under `choices` into `threads`. It uses no marker. Refusals 1 to 12, 22, 28. */
 uint64_t handover_start(const uint8_t *array, size_t array_len, const uint8_t *choices, size_t choices_len, uint32_t *threads,
                         size_t threads_len);
 
 /*
  * One step on lists with `thread_count` threads and `marker_count` markers: the thread at position `receiver` receives from the one at
- * `sender`, positions counted from 0. Refusals 1 to 12, 22 to 29. Steps made: 0, as a step counts none.
+ * `sender`, positions counted from 0. Refusals 1 to 12, 22 to 29.
  */
 uint64_t handover_step(const uint8_t *array, size_t array_len, const uint8_t *choices, size_t choices_len, uint32_t *threads,
                        size_t threads_len, size_t thread_count, uint16_t *markers, size_t markers_len, size_t marker_count,

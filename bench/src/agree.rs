@@ -64,13 +64,8 @@ fn checks_agree() {
     let mut codes = BTreeSet::new();
     for round in 0..200_000 {
         let files = small_files().swap_remove(round % 6);
-        let mut case = Case {
-            array: files.array,
-            table: files.table,
-            choices: vec![],
-            lent: Lent::default(),
-            call: Call::Check,
-        };
+        let mut case =
+            Case { array: files.array, table: files.table, choices: vec![], lent: Lent::default(), call: Call::Check };
         for _ in 0..random.below(3) {
             if random.below(2) == 0 {
                 random.change(&mut case.array);
@@ -112,12 +107,10 @@ fn small_loops() -> Vec<Loaded> {
 fn cut(random: &mut Random, loaded: &mut Loaded) {
     let lent = &mut loaded.lent;
     if random.below(3) > 0 {
-        lent.threads
-            .truncate((lent.thread_count + random.below(3)) * (2 + loaded.names));
+        lent.threads.truncate((lent.thread_count + random.below(3)) * (2 + loaded.names));
     }
     if random.below(3) > 0 {
-        lent.markers
-            .truncate(4 * (lent.marker_count + random.below(3)));
+        lent.markers.truncate(4 * (lent.marker_count + random.below(3)));
     }
 }
 
@@ -134,8 +127,7 @@ fn change_lists(random: &mut Random, loaded: &mut Loaded) {
         3 | 4 if lent.thread_count > 0 => {
             let used = lent.threads.len().min(3 * lent.thread_count);
             let at = random.below(used);
-            lent.threads[at] =
-                [0, random.number() as u32, lent.threads[random.below(used)]][random.below(3)];
+            lent.threads[at] = [0, random.number() as u32, lent.threads[random.below(used)]][random.below(3)];
         }
         // In `largest` the last agent has the free names of every other, but no arguments.
         5 => lent.threads[random.below(2) * (2 + loaded.names)] = last as u32,
@@ -154,19 +146,9 @@ fn engines_agree() {
         let walks = random.below(2) == 0;
         let (receiver, sender) = (random.number() % 1000, random.below(4));
         let allowed = random.below(60) as u32;
-        let call = if walks {
-            Call::Walk { allowed }
-        } else {
-            Call::Step { receiver, sender }
-        };
+        let call = if walks { Call::Walk { allowed } } else { Call::Step { receiver, sender } };
         let choices = vec![random.number() as u8; 128 - usize::from(random.below(40) == 0)];
-        let case = Case {
-            array: loaded.array,
-            table: vec![],
-            choices,
-            lent: loaded.lent,
-            call,
-        };
+        let case = Case { array: loaded.array, table: vec![], choices, lent: loaded.lent, call };
         let code = agreed(&case) & 0xff;
         codes.insert(if walks && code < 100 { code + 50 } else { code });
     }

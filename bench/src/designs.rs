@@ -1,9 +1,7 @@
 //! The designs of the checker: array and table. Each has weight 1 for every agent in K balances of bound 2,
 //! 256 claims where K isn't 0, and is held, but for `broken`; so every live pair is looked at.
 
-use crate::files::{
-    array_file, chain, record, table_file, Agent, Balance, Record, IN, NEW, OUT, PAR,
-};
+use crate::files::{array_file, chain, record, table_file, Agent, Balance, Record, IN, NEW, OUT, PAR};
 
 pub struct Files {
     pub array: Vec<u8>,
@@ -15,9 +13,7 @@ pub struct Files {
 
 /// News for the first names, then two chains side by side.
 fn two_chains(news: usize, receivers: &[Agent], senders: &[Agent]) -> Vec<Record> {
-    let mut records: Vec<Record> = (0..news)
-        .map(|name| record(NEW, name + 1, 0, name, &[]))
-        .collect();
+    let mut records: Vec<Record> = (0..news).map(|name| record(NEW, name + 1, 0, name, &[])).collect();
     records.push(record(PAR, news + 1, news + 2 + receivers.len(), 0, &[]));
     chain(&mut records, receivers);
     chain(&mut records, senders);
@@ -25,35 +21,18 @@ fn two_chains(news: usize, receivers: &[Agent], senders: &[Agent]) -> Vec<Record
 }
 
 fn ones(records: &[Record], bound: u32) -> Balance {
-    let weights = records
-        .iter()
-        .map(|record| u16::from(record[0] >= OUT))
-        .collect();
+    let weights = records.iter().map(|record| u16::from(record[0] >= OUT)).collect();
     Balance { bound, weights }
 }
 
 fn files(records: &[Record], rows: &[[u64; 4]], balances: &[Balance]) -> Files {
     let array = array_file(records, rows.len());
-    let agents: Vec<usize> = (0..records.len())
-        .filter(|i| records[*i][0] >= OUT)
-        .collect();
+    let agents: Vec<usize> = (0..records.len()).filter(|i| records[*i][0] >= OUT).collect();
     let count = if balances.is_empty() { 0 } else { 256 };
-    let claim = |c: usize| {
-        [
-            agents[c % agents.len()] as u16,
-            u16::MAX,
-            (c % balances.len()) as u16,
-        ]
-    };
+    let claim = |c: usize| [agents[c % agents.len()] as u16, u16::MAX, (c % balances.len()) as u16];
     let claims: Vec<[u16; 3]> = (0..count).map(claim).collect();
     let table = table_file(&array, rows, balances, &claims);
-    Files {
-        array,
-        table,
-        nodes: records.len(),
-        names: rows.len(),
-        balances: balances.len(),
-    }
+    Files { array, table, nodes: records.len(), names: rows.len(), balances: balances.len() }
 }
 
 fn held(records: &[Record], rows: &[[u64; 4]], balances: usize) -> Files {
@@ -90,15 +69,9 @@ pub fn sparse(nodes: usize, channels: usize, balances: usize) -> Files {
 /// parameter in turn. All rows are full and every pair is live.
 pub fn arguments(nodes: usize, names: usize, balances: usize) -> Files {
     let count = names / 8 - 1;
-    let mut records: Vec<Record> = (0..8)
-        .map(|name| record(NEW, name + 1, 0, name, &[]))
-        .collect();
+    let mut records: Vec<Record> = (0..8).map(|name| record(NEW, name + 1, 0, name, &[])).collect();
     let params = |i: usize| (8 * i + 8..8 * i + 16).map(|v| v as u8).collect();
-    let sent = |i: usize| {
-        (0..8)
-            .map(|k| (8 + (8 * i + 5 * k) % (8 * count)) as u8)
-            .collect()
-    };
+    let sent = |i: usize| (0..8).map(|k| (8 + (8 * i + 5 * k) % (8 * count)) as u8).collect();
     let mut agents: Vec<Agent> = (0..count).map(|i| (IN, 0, params(i))).collect();
     agents.extend((0..nodes - 9 - count).map(|i| (OUT, 0, sent(i))));
     chain(&mut records, &agents);

@@ -39,9 +39,7 @@ pub fn chain(records: &mut Vec<Record>, agents: &[Agent]) -> usize {
 /// The sum of all words, wrapping.
 pub fn word_sum(bytes: &[u8]) -> u32 {
     let word = |four: &[u8]| u32::from_le_bytes(four.try_into().unwrap());
-    bytes
-        .chunks_exact(4)
-        .fold(0, |sum, four| sum.wrapping_add(word(four)))
+    bytes.chunks_exact(4).fold(0, |sum, four| sum.wrapping_add(word(four)))
 }
 
 /// Appends the word sum and the letters.
@@ -67,26 +65,12 @@ pub struct Balance {
 }
 
 /// A table for the array; a claim is agent, most and balance.
-pub fn table_file(
-    array: &[u8],
-    rows: &[[u64; 4]],
-    balances: &[Balance],
-    claims: &[[u16; 3]],
-) -> Vec<u8> {
-    let mut file: Vec<u8> = rows
-        .iter()
-        .flatten()
-        .flat_map(|word| word.to_le_bytes())
-        .collect();
+pub fn table_file(array: &[u8], rows: &[[u64; 4]], balances: &[Balance], claims: &[[u16; 3]]) -> Vec<u8> {
+    let mut file: Vec<u8> = rows.iter().flatten().flat_map(|word| word.to_le_bytes()).collect();
     let balances_at = file.len() as u32;
     for balance in balances {
         file.extend(balance.bound.to_le_bytes());
-        file.extend(
-            balance
-                .weights
-                .iter()
-                .flat_map(|weight| weight.to_le_bytes()),
-        );
+        file.extend(balance.weights.iter().flat_map(|weight| weight.to_le_bytes()));
         file.resize(file.len().next_multiple_of(4), 0);
     }
     let claims_at = file.len() as u32;

@@ -20,22 +20,14 @@ pub struct Loaded {
 }
 
 /// News, then `count` sides under a chain of pars; `build` adds side k.
-fn side_by_side(
-    news: &[usize],
-    count: usize,
-    build: impl Fn(&mut Vec<Record>, usize) -> usize,
-) -> Vec<Record> {
+fn side_by_side(news: &[usize], count: usize, build: impl Fn(&mut Vec<Record>, usize) -> usize) -> Vec<Record> {
     let new = |(i, name): (usize, &usize)| record(NEW, i + 1, 0, *name, &[]);
     let mut records: Vec<Record> = news.iter().enumerate().map(new).collect();
     let joints = records.len();
     records.resize(joints + count - 1, stop());
     let sides: Vec<usize> = (0..count).map(|k| build(&mut records, k)).collect();
     for k in 0..count - 1 {
-        let rest = if k + 2 < count {
-            joints + k + 1
-        } else {
-            sides[count - 1]
-        };
+        let rest = if k + 2 < count { joints + k + 1 } else { sides[count - 1] };
         records[joints + k] = record(PAR, sides[k], rest, 0, &[]);
     }
     records
@@ -74,21 +66,12 @@ pub fn largest(thread_count: usize, marker_count: usize) -> Loaded {
     let build = |records: &mut Vec<Record>, k: usize| match k {
         _ if k.is_multiple_of(2) => chain(records, &vec![(OUT, 0, vec![0]); 2]),
         255 => chain(records, &[(IN, 0, vec![255]), (RESOURCE, 0, vec![])]),
-        _ => chain(
-            records,
-            &[(IN, 0, vec![k as u8]), (IN, 0, vec![k as u8 + 1])],
-        ),
+        _ => chain(records, &[(IN, 0, vec![k as u8]), (IN, 0, vec![k as u8 + 1])]),
     };
     let records = side_by_side(&[0], 256, build);
     let out = records.iter().position(|record| record[0] == OUT).unwrap();
     let mut loaded = started(array_file(&records, 256), 256, marker_count);
-    for (i, entry) in loaded
-        .lent
-        .markers
-        .chunks_exact_mut(4)
-        .take(marker_count)
-        .enumerate()
-    {
+    for (i, entry) in loaded.lent.markers.chunks_exact_mut(4).take(marker_count).enumerate() {
         entry.copy_from_slice(&[records.len() as u16 - 2, out as u16, i as u16, 0]);
     }
     loaded.lent.thread_count = thread_count;
@@ -101,14 +84,5 @@ fn started(array: Vec<u8>, names: usize, marker_count: usize) -> Loaded {
     let answer = handover::start(&array, &[0; 128], &mut threads);
     assert_eq!(handover::code(answer), 0, "the start is refused");
     let thread_count = handover::counts(answer).0;
-    Loaded {
-        array,
-        names,
-        lent: Lent {
-            threads,
-            thread_count,
-            markers,
-            marker_count,
-        },
-    }
+    Loaded { array, names, lent: Lent { threads, thread_count, markers, marker_count } }
 }

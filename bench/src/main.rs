@@ -19,12 +19,7 @@ use versions::{Call, Case};
 fn head(title: &str, columns: &[&str], unit: &str) {
     println!("\n### {title}\n");
     let versions = ["proved", "plain", "tuned"].map(|version| format!("{version}, {unit}"));
-    let all = [
-        &columns.join(" | "),
-        &versions.join(" | "),
-        "proved/plain | proved/tuned",
-    ]
-    .join(" | ");
+    let all = [&columns.join(" | "), &versions.join(" | "), "proved/plain | proved/tuned"].join(" | ");
     println!("| {all} |");
     println!("|{}", "---|".repeat(columns.len() + 5));
 }
@@ -38,23 +33,12 @@ fn line(columns: &[String], measured: &Measured, steps: f64) {
         _ => format!("{micros:.0}"),
     };
     let times = [time(proved), time(plain), time(tuned)].join(" | ");
-    println!(
-        "| {} | {times} | {:.2} | {:.2} |",
-        columns.join(" | "),
-        proved / plain,
-        proved / tuned
-    );
+    println!("| {} | {times} | {:.2} | {:.2} |", columns.join(" | "), proved / plain, proved / tuned);
 }
 
 fn check_case(files: &Files, call: Call) -> Case {
     let (array, table) = (files.array.clone(), files.table.clone());
-    Case {
-        array,
-        table,
-        choices: vec![],
-        lent: Default::default(),
-        call,
-    }
+    Case { array, table, choices: vec![], lent: Default::default(), call }
 }
 
 /// Measures a check that is to give `answer`.
@@ -74,11 +58,7 @@ fn checks() {
     check("sparse", &designs::sparse(1024, 128, 24), 0);
     let files = designs::arguments(1024, 256, 24);
     let name = "reading the array of arguments".to_string();
-    line(
-        &[name, "1024".into(), "256".into(), "".into()],
-        &measure(&check_case(&files, Call::Read)),
-        1.0,
-    );
+    line(&[name, "1024".into(), "256".into(), "".into()], &measure(&check_case(&files, Call::Read)), 1.0);
 
     head("Checks by M (pairs)", &columns, "µs");
     for nodes in [64, 128, 256, 512, 1024] {
@@ -96,13 +76,7 @@ fn checks() {
 
 fn engine_case(loaded: &Loaded, call: Call) -> Case {
     let (array, lent) = (loaded.array.clone(), loaded.lent.clone());
-    Case {
-        array,
-        table: vec![],
-        choices: vec![0; 128],
-        lent,
-        call,
-    }
+    Case { array, table: vec![], choices: vec![0; 128], lent, call }
 }
 
 /// Measures the walk, for each step of it.
@@ -111,24 +85,12 @@ fn walk(name: &str, loaded: &Loaded, allowed: u32) {
     let (threads, _, steps) = handover::counts(measured.answer);
     assert_eq!(steps, allowed, "{name}");
     let call = format!("{:.1}", measured.best[0]);
-    let columns = [
-        name.to_string(),
-        threads.to_string(),
-        loaded.names.to_string(),
-        steps.to_string(),
-        call,
-    ];
+    let columns = [name.to_string(), threads.to_string(), loaded.names.to_string(), steps.to_string(), call];
     line(&columns, &measured, f64::from(steps));
 }
 
 fn walks() {
-    let columns = [
-        "design",
-        "threads at the end",
-        "names",
-        "steps",
-        "proved, µs a call",
-    ];
+    let columns = ["design", "threads at the end", "names", "steps", "proved, µs a call"];
     head("Walks", &columns, "µs a step");
     walk("one-loop", &loops::loops(1, 0, 2), 10_000);
     walk("60-loops", &loops::loops(60, 0, 2), 10_000);
@@ -142,13 +104,7 @@ fn walks() {
 
 /// Measures the step of the first two threads.
 fn step(loaded: &Loaded) {
-    let measured = measure(&engine_case(
-        loaded,
-        Call::Step {
-            receiver: 1,
-            sender: 0,
-        },
-    ));
+    let measured = measure(&engine_case(loaded, Call::Step { receiver: 1, sender: 0 }));
     assert_eq!(handover::code(measured.answer), 0);
     let sizes = [loaded.lent.thread_count, loaded.lent.marker_count].map(|size| size.to_string());
     line(&sizes, &measured, 1.0);
@@ -156,11 +112,7 @@ fn step(loaded: &Loaded) {
 
 fn steps() {
     let columns = ["threads", "markers"];
-    head(
-        "Single steps by threads and markers (largest: M = 1023, N = 256)",
-        &columns,
-        "µs",
-    );
+    head("Single steps by threads and markers (largest: M = 1023, N = 256)", &columns, "µs");
     for threads in [2, 16, 64, 128, 256] {
         step(&loops::largest(threads, 0));
     }

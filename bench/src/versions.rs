@@ -3,7 +3,7 @@
 use crate::loops::Lent;
 use crate::tuned;
 use handover::Lists;
-use plain::{Ending, Refusal, Verdict};
+use outside::packed;
 
 pub enum Call {
     Read,
@@ -38,9 +38,7 @@ fn proved(case: &Case, lent: &mut Lent) -> u64 {
     match case.call {
         Call::Read => handover::remark(&case.array) as u64,
         Call::Check => handover::check(&case.array, &case.table),
-        Call::Step { receiver, sender } => {
-            handover::step(&case.array, &case.choices, lists(lent), receiver, sender)
-        }
+        Call::Step { receiver, sender } => handover::step(&case.array, &case.choices, lists(lent), receiver, sender),
         Call::Walk { allowed } => handover::walk(&case.array, &case.choices, lists(lent), allowed),
     }
 }
@@ -49,9 +47,7 @@ fn tuned(case: &Case, lent: &mut Lent) -> u64 {
     match case.call {
         Call::Read => tuned::remark(&case.array) as u64,
         Call::Check => tuned::check(&case.array, &case.table),
-        Call::Step { receiver, sender } => {
-            tuned::step(&case.array, &case.choices, lists(lent), receiver, sender)
-        }
+        Call::Step { receiver, sender } => tuned::step(&case.array, &case.choices, lists(lent), receiver, sender),
         Call::Walk { allowed } => tuned::walk(&case.array, &case.choices, lists(lent), allowed),
     }
 }
@@ -59,7 +55,7 @@ fn tuned(case: &Case, lent: &mut Lent) -> u64 {
 fn plain(case: &Case, lent: &mut Lent) -> u64 {
     match case.call {
         Call::Read => plain::remark(&case.array).len() as u64,
-        Call::Check => verdict(plain::check(&case.array, &case.table)),
+        Call::Check => packed::verdict(&plain::check(&case.array, &case.table)),
         Call::Step { receiver, sender } => plain_step(case, lists(lent), receiver, sender),
         Call::Walk { allowed } => plain_walk(case, lists(lent), allowed),
     }
@@ -68,53 +64,13 @@ fn plain(case: &Case, lent: &mut Lent) -> u64 {
 fn plain_step(case: &Case, l: Lists, receiver: usize, sender: usize) -> u64 {
     let (array, choices) = (&case.array, &case.choices);
     let (threads, markers) = (l.thread_count, l.marker_count);
-    plain::step(
-        array, choices, l.threads, threads, l.markers, markers, receiver, sender,
-    )
-    .map_or_else(refusal, |made| counts(0, made, 0))
+    packed::stepped(plain::step(array, choices, l.threads, threads, l.markers, markers, receiver, sender))
 }
 
 fn plain_walk(case: &Case, l: Lists, allowed: u32) -> u64 {
     let (array, choices) = (&case.array, &case.choices);
     let (threads, markers) = (l.thread_count, l.marker_count);
-    plain::walk(
-        array, choices, l.threads, threads, l.markers, markers, allowed,
-    )
-    .map_or_else(refusal, |made| {
-        counts(ending(made.ending), made.counts, made.steps)
-    })
-}
-
-fn verdict(verdict: Verdict) -> u64 {
-    match verdict {
-        Verdict::Held { .. } => 0,
-        Verdict::Rule { number, place } => {
-            let figures = place
-                .iter()
-                .zip([8, 24, 40])
-                .map(|(figure, at)| (*figure as u64) << at);
-            u64::from(number) + figures.sum::<u64>()
-        }
-        Verdict::Refused(reason) => refusal(reason),
-    }
-}
-
-fn refusal(refusal: Refusal) -> u64 {
-    100 + u64::from(refusal.number) + ((refusal.place as u64) << 8)
-}
-
-fn counts(code: u64, counts: plain::Counts, steps: u32) -> u64 {
-    code + ((counts.threads as u64) << 8)
-        + ((counts.markers as u64) << 18)
-        + (u64::from(steps) << 32)
-}
-
-fn ending(ending: Ending) -> u64 {
-    match ending {
-        Ending::Quiet => 0,
-        Ending::Spent => 1,
-        Ending::Full => 2,
-    }
+    packed::walked(plain::walk(array, choices, l.threads, threads, l.markers, markers, allowed))
 }
 
 /// The answer that all three give, each on lists of its own. Panics if answers or words differ.
@@ -124,14 +80,7 @@ pub fn agreed(case: &Case) -> u64 {
     for (k, version) in VERSIONS.iter().enumerate() {
         answers[k] = version(case, &mut lent[k]);
     }
-    assert!(
-        answers[0] == answers[1] && answers[0] == answers[2],
-        "answers differ: {answers:x?}"
-    );
-    assert!(
-        lent[0] == lent[1] && lent[0] == lent[2],
-        "words differ after {:x}",
-        answers[0]
-    );
+    assert!(answers[0] == answers[1] && answers[0] == answers[2], "answers differ: {answers:x?}");
+    assert!(lent[0] == lent[1] && lent[0] == lent[2], "words differ after {:x}", answers[0]);
     answers[0]
 }

@@ -72,11 +72,7 @@ impl Node {
     /// The names this node uses: its channel and the names it sends.
     fn uses(&self) -> impl Iterator<Item = usize> + '_ {
         let channel = self.is_agent().then_some(self.name);
-        let sent: &[usize] = if self.is_sender() {
-            &self.arguments
-        } else {
-            &[]
-        };
+        let sent: &[usize] = if self.is_sender() { &self.arguments } else { &[] };
         channel.into_iter().chain(sent.iter().copied())
     }
 }
@@ -224,10 +220,7 @@ pub fn read_array(file: &[u8]) -> Result<Array, Refusal> {
 
     let bytes = &file[start..start + RECORD * count];
     let records: Vec<Record> = bytes.chunks_exact(RECORD).map(Record::read).collect();
-    refuse_at(
-        6,
-        (0..count).filter(|i| records[*i].kind_or_arity_is_wrong()),
-    )?;
+    refuse_at(6, (0..count).filter(|i| records[*i].kind_or_arity_is_wrong()))?;
     refuse_at(7, (0..count).filter(|i| records[*i].unused_field_is_set()))?;
     let nodes: Vec<Node> = records.iter().map(Record::node).collect();
 
@@ -240,14 +233,7 @@ pub fn read_array(file: &[u8]) -> Result<Array, Refusal> {
         opened.add(node.name);
     }
     let free = free_names(&nodes);
-    Ok(Array {
-        start,
-        sum,
-        names,
-        nodes,
-        opened,
-        free,
-    })
+    Ok(Array { start, sum, names, nodes, opened, free })
 }
 
 /// The remark as the leading part of the file, empty if the array is refused.
@@ -261,11 +247,7 @@ pub fn remark(file: &[u8]) -> &[u8] {
 /// Refusals 8 and 9.
 fn check_tree(nodes: &[Node]) -> Result<(), Refusal> {
     let count = nodes.len();
-    let wrong_child = |i: &usize| {
-        nodes[*i]
-            .children()
-            .any(|child| child <= *i || child >= count)
-    };
+    let wrong_child = |i: &usize| nodes[*i].children().any(|child| child <= *i || child >= count);
     refuse_at(8, (0..count).filter(wrong_child))?;
 
     let mut parents = vec![0; count];
@@ -279,11 +261,7 @@ fn check_tree(nodes: &[Node]) -> Result<(), Refusal> {
 fn check_names(nodes: &[Node], names: usize) -> Result<Vec<usize>, Refusal> {
     let wrong_name = |i: &usize| {
         let node = &nodes[*i];
-        node.binds()
-            .iter()
-            .copied()
-            .chain(node.uses())
-            .any(|name| name >= names)
+        node.binds().iter().copied().chain(node.uses()).any(|name| name >= names)
     };
     refuse_at(10, (0..nodes.len()).filter(wrong_name))?;
 
@@ -318,9 +296,8 @@ fn check_reach(nodes: &[Node], binders: &[usize]) -> Result<(), Refusal> {
             next += sizes[child];
         }
     }
-    let reaches = |binder: usize, i: usize| {
-        positions[binder] < positions[i] && positions[i] < positions[binder] + sizes[binder]
-    };
+    let reaches =
+        |binder: usize, i: usize| positions[binder] < positions[i] && positions[i] < positions[binder] + sizes[binder];
     let out_of_reach = |i: &usize| nodes[*i].uses().any(|name| !reaches(binders[name], *i));
     refuse_at(12, (0..nodes.len()).filter(out_of_reach))
 }

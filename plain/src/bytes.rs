@@ -12,19 +12,12 @@ pub(crate) fn number16(bytes: &[u8], at: usize) -> u16 {
 
 /// The 32-bit number at a position.
 pub(crate) fn number32(bytes: &[u8], at: usize) -> u32 {
-    u32::from_le_bytes([
-        number8(bytes, at),
-        number8(bytes, at + 1),
-        number8(bytes, at + 2),
-        number8(bytes, at + 3),
-    ])
+    u32::from_le_bytes([number8(bytes, at), number8(bytes, at + 1), number8(bytes, at + 2), number8(bytes, at + 3)])
 }
 
 /// The sum of all 32-bit words, wrapping at 2^32.
 pub(crate) fn word_sum(bytes: &[u8]) -> u32 {
-    bytes
-        .chunks_exact(4)
-        .fold(0u32, |sum, word| sum.wrapping_add(number32(word, 0)))
+    bytes.chunks_exact(4).fold(0u32, |sum, word| sum.wrapping_add(number32(word, 0)))
 }
 
 /// Bit n: byte n / 8, weight 2^(n mod 8). Past the end there are no bits.

@@ -27,13 +27,7 @@ impl Marker {
 
     pub fn new(resource: usize, out: usize, first: Marker, second: Marker) -> Marker {
         let height = 1 + first.height().max(second.height());
-        Marker(Some(Rc::new(Branch {
-            resource,
-            out,
-            first,
-            second,
-            height,
-        })))
+        Marker(Some(Rc::new(Branch { resource, out, first, second, height })))
     }
 
     /// The four parts, or none for the empty marker.
@@ -79,10 +73,7 @@ impl Eq for Marker {}
 /// Frees a high tree without recursion.
 impl Drop for Branch {
     fn drop(&mut self) {
-        let mut waiting = vec![
-            std::mem::take(&mut self.first),
-            std::mem::take(&mut self.second),
-        ];
+        let mut waiting = vec![std::mem::take(&mut self.first), std::mem::take(&mut self.second)];
         while let Some(marker) = waiting.pop() {
             if let Some(mut branch) = marker.0.and_then(Rc::into_inner) {
                 waiting.push(std::mem::take(&mut branch.first));
@@ -97,11 +88,7 @@ impl fmt::Debug for Marker {
     fn fmt(&self, f: &mut fmt::Formatter) -> fmt::Result {
         match &self.0 {
             None => write!(f, "empty"),
-            Some(branch) => write!(
-                f,
-                "({}, {}, height {})",
-                branch.resource, branch.out, branch.height
-            ),
+            Some(branch) => write!(f, "({}, {}, height {})", branch.resource, branch.out, branch.height),
         }
     }
 }
@@ -154,10 +141,7 @@ fn unfold(
         match node.kind {
             Kind::Stop => {}
             Kind::New => {
-                let opening = Opening {
-                    new: node.name,
-                    marker: marker.clone(),
-                };
+                let opening = Opening { new: node.name, marker: marker.clone() };
                 names.insert(node.name, opening);
                 waiting.push(node.left);
             }
@@ -172,9 +156,7 @@ fn unfold(
                 threads.push(Thread {
                     node: i,
                     marker: marker.clone(),
-                    names: kept
-                        .map(|(name, opening)| (*name, opening.clone()))
-                        .collect(),
+                    names: kept.map(|(name, opening)| (*name, opening.clone())).collect(),
                 });
             }
         }
@@ -185,14 +167,7 @@ fn unfold(
 /// A choice goes to the right where `choices` says true of its node.
 pub fn begin(array: &Array, choices: &dyn Fn(usize) -> bool) -> Configuration {
     let mut threads = Vec::new();
-    unfold(
-        array,
-        0,
-        &Marker::empty(),
-        BTreeMap::new(),
-        choices,
-        &mut threads,
-    );
+    unfold(array, 0, &Marker::empty(), BTreeMap::new(), choices, &mut threads);
     Configuration { threads }
 }
 
@@ -236,20 +211,9 @@ pub fn attempt(
             names.insert(*parameter, opening.clone());
         }
     }
-    let marker = if stays {
-        Marker::new(p.node, q.node, p.marker.clone(), q.marker.clone())
-    } else {
-        p.marker.clone()
-    };
+    let marker = if stays { Marker::new(p.node, q.node, p.marker.clone(), q.marker.clone()) } else { p.marker.clone() };
     unfold(array, input.left, &marker, names, choices, &mut threads);
-    unfold(
-        array,
-        output.left,
-        &q.marker,
-        q.names.clone(),
-        choices,
-        &mut threads,
-    );
+    unfold(array, output.left, &q.marker, q.names.clone(), choices, &mut threads);
     Ok(Configuration { threads })
 }
 
@@ -269,13 +233,10 @@ pub fn reached(array: &Array, first: &[u8; 128], attempts: &[Attempt]) -> Config
 pub fn safe(array: &Array, table: &Table, configuration: &Configuration) -> bool {
     let threads = &configuration.threads;
     let flows = threads.iter().all(|thread| {
-        array
-            .free(thread.node)
-            .iter()
-            .all(|name| match thread.names.get(&name) {
-                Some(opening) => table.row(name).has(opening.new),
-                None => false,
-            })
+        array.free(thread.node).iter().all(|name| match thread.names.get(&name) {
+            Some(opening) => table.row(name).has(opening.new),
+            None => false,
+        })
     });
     let balanced = table.balances().iter().all(|balance| {
         let weights = threads.iter().map(|thread| balance.weight(thread.node));

@@ -76,13 +76,7 @@ fn check_choices(choices: &[u8]) -> Result<(), Refusal> {
 }
 
 /// The number of words is right, and so is each of them.
-fn well_formed(
-    array: &Array,
-    threads: &[u32],
-    thread_count: usize,
-    markers: &[u16],
-    marker_count: usize,
-) -> bool {
+fn well_formed(array: &Array, threads: &[u32], thread_count: usize, markers: &[u16], marker_count: usize) -> bool {
     if thread_count > thread_room(array, threads) || marker_count > marker_room(markers) {
         return false;
     }
@@ -92,24 +86,16 @@ fn well_formed(
         let free = array.free(node);
         array.agent(node).is_some()
             && words[1] as usize <= marker_count
-            && words[2..]
-                .iter()
-                .enumerate()
-                .all(|(name, word)| match word.checked_sub(1) {
-                    None => !free.has(name),
-                    Some(opening) => {
-                        let new = (opening / 65_536) as usize;
-                        let marker = (opening % 65_536) as usize;
-                        free.has(name) && array.opened().has(new) && marker <= marker_count
-                    }
-                })
+            && words[2..].iter().enumerate().all(|(name, word)| match word.checked_sub(1) {
+                None => !free.has(name),
+                Some(opening) => {
+                    let new = (opening / 65_536) as usize;
+                    let marker = (opening % 65_536) as usize;
+                    free.has(name) && array.opened().has(new) && marker <= marker_count
+                }
+            })
     };
-    let is_kind = |node: u16, kind: Kind| {
-        array
-            .nodes()
-            .get(usize::from(node))
-            .is_some_and(|node| node.kind == kind)
-    };
+    let is_kind = |node: u16, kind: Kind| array.nodes().get(usize::from(node)).is_some_and(|node| node.kind == kind);
     let entries = || markers.chunks_exact(4).take(marker_count);
     let entry_is_right = |(i, entry): (usize, &[u16])| {
         // Entry i is marker i + 1.
@@ -127,14 +113,7 @@ fn well_formed(
 /// Adds the threads that a node gives under a marker. `names` has a word
 /// per name, as in a thread. Each name has one binder and a thread keeps
 /// only the names free in its agent, so one list serves all sides.
-fn unfold(
-    array: &Array,
-    choices: &[u8],
-    node: usize,
-    marker: u32,
-    mut names: Vec<u32>,
-    threads: &mut Vec<u32>,
-) {
+fn unfold(array: &Array, choices: &[u8], node: usize, marker: u32, mut names: Vec<u32>, threads: &mut Vec<u32>) {
     let mut waiting = vec![node];
     while let Some(i) = waiting.pop() {
         let node = &array.nodes()[i];
@@ -148,11 +127,7 @@ fn unfold(
                 waiting.push(node.right);
                 waiting.push(node.left);
             }
-            Kind::Choice => waiting.push(if bit(choices, i) {
-                node.right
-            } else {
-                node.left
-            }),
+            Kind::Choice => waiting.push(if bit(choices, i) { node.right } else { node.left }),
             Kind::Out | Kind::In | Kind::Resource => {
                 let free = array.free(i);
                 threads.push(i as u32);
@@ -219,10 +194,7 @@ fn make_step(
     let mut added = None;
     if stays {
         let entry = [p[0] as u16, q[0] as u16, p[1] as u16, q[1] as u16];
-        let listed = markers
-            .chunks_exact(4)
-            .take(marker_count)
-            .position(|old| old == entry);
+        let listed = markers.chunks_exact(4).take(marker_count).position(|old| old == entry);
         match listed {
             Some(i) => marker = i as u32 + 1,
             None => {
@@ -243,14 +215,7 @@ fn make_step(
         names[*parameter] = q[2 + *sent];
     }
     unfold(array, choices, input.left, marker, names, &mut next);
-    unfold(
-        array,
-        choices,
-        output.left,
-        q[1],
-        q[2..].to_vec(),
-        &mut next,
-    );
+    unfold(array, choices, output.left, q[1], q[2..].to_vec(), &mut next);
 
     let next_count = next.len() / width(array);
     if next_count > thread_room(array, threads) {
@@ -260,15 +225,8 @@ fn make_step(
         return refuse(29);
     }
 
-    let made = Made {
-        receiver: p[0] as usize,
-        sender: q[0] as usize,
-        marker,
-    };
-    let mut counts = Counts {
-        threads: next_count,
-        markers: marker_count,
-    };
+    let made = Made { receiver: p[0] as usize, sender: q[0] as usize, marker };
+    let mut counts = Counts { threads: next_count, markers: marker_count };
     threads[..next.len()].copy_from_slice(&next);
     if let Some(entry) = added {
         markers[4 * marker_count..4 * marker_count + 4].copy_from_slice(&entry);
@@ -314,16 +272,7 @@ pub fn step(
     if let Some(number) = pair_refusal(&array, threads, receiver, sender) {
         return refuse(number);
     }
-    let (counts, _) = make_step(
-        &array,
-        choices,
-        threads,
-        thread_count,
-        markers,
-        marker_count,
-        receiver,
-        sender,
-    )?;
+    let (counts, _) = make_step(&array, choices, threads, thread_count, markers, marker_count, receiver, sender)?;
     Ok(counts)
 }
 
@@ -352,16 +301,7 @@ pub fn stride(
     let Some((receiver, sender)) = first_ready(&array, threads, thread_count) else {
         return Ok(Stride::Quiet);
     };
-    let result = make_step(
-        &array,
-        choices,
-        threads,
-        thread_count,
-        markers,
-        marker_count,
-        receiver,
-        sender,
-    );
+    let result = make_step(&array, choices, threads, thread_count, markers, marker_count, receiver, sender);
     Ok(match result {
         Ok((counts, made)) => Stride::Made(made, counts),
         Err(_) => Stride::Full,
@@ -381,9 +321,7 @@ impl Allowance {
 
     /// The allowance after one more step.
     fn lessened(self) -> Allowance {
-        Allowance {
-            left: self.left.saturating_sub(1),
-        }
+        Allowance { left: self.left.saturating_sub(1) }
     }
 }
 
@@ -398,16 +336,7 @@ pub fn walk(
     allowed: u32,
 ) -> Result<Walked, Refusal> {
     let ignore = &mut |_: Made| {};
-    walk_telling(
-        array,
-        choices,
-        threads,
-        thread_count,
-        markers,
-        marker_count,
-        allowed,
-        ignore,
-    )
+    walk_telling(array, choices, threads, thread_count, markers, marker_count, allowed, ignore)
 }
 
 /// The walk, telling each step it made.
@@ -427,10 +356,7 @@ pub fn walk_telling(
     if !well_formed(&array, threads, thread_count, markers, marker_count) {
         return refuse(23);
     }
-    let mut counts = Counts {
-        threads: thread_count,
-        markers: marker_count,
-    };
+    let mut counts = Counts { threads: thread_count, markers: marker_count };
     let mut allowance = Allowance { left: allowed };
     let mut steps = 0;
     let ending = loop {
@@ -440,16 +366,7 @@ pub fn walk_telling(
         if allowance.is_spent() {
             break Ending::Spent;
         }
-        let result = make_step(
-            &array,
-            choices,
-            threads,
-            counts.threads,
-            markers,
-            counts.markers,
-            receiver,
-            sender,
-        );
+        let result = make_step(&array, choices, threads, counts.threads, markers, counts.markers, receiver, sender);
         let Ok((next, made)) = result else {
             break Ending::Full;
         };
@@ -458,9 +375,5 @@ pub fn walk_telling(
         steps += 1;
         tell(made);
     };
-    Ok(Walked {
-        ending,
-        steps,
-        counts,
-    })
+    Ok(Walked { ending, steps, counts })
 }

@@ -33,10 +33,7 @@ pub(crate) fn refuse<T>(number: u8) -> Result<T, Refusal> {
 
 /// Refuses with the first of the places, if there is one.
 /// The places must come in rising order.
-pub(crate) fn refuse_at(
-    number: u8,
-    mut places: impl Iterator<Item = usize>,
-) -> Result<(), Refusal> {
+pub(crate) fn refuse_at(number: u8, mut places: impl Iterator<Item = usize>) -> Result<(), Refusal> {
     match places.next() {
         Some(place) => Err(Refusal { number, place }),
         None => Ok(()),

@@ -19,12 +19,7 @@ fn refused_line(refusal: Refusal) -> String {
 /// The line of `judge`.
 pub fn judge_text(array: &[u8], table: &[u8]) -> String {
     match check(array, table) {
-        Verdict::Held {
-            nodes,
-            names,
-            balances,
-            claims,
-        } => {
+        Verdict::Held { nodes, names, balances, claims } => {
             format!("held {nodes} {names} {balances} {claims}\n")
         }
         Verdict::Rule { number, place } => {
@@ -52,16 +47,9 @@ pub fn walk_text(file: &[u8]) -> String {
         Err(refusal) => return refused_line(refusal),
     };
     let mut text = String::new();
-    let walked = walk_telling(
-        file,
-        &choices,
-        &mut threads,
-        count,
-        &mut markers,
-        0,
-        ALLOWED,
-        &mut |made| text += &format!("{} {} {}\n", made.receiver, made.sender, made.marker),
-    );
+    let walked = walk_telling(file, &choices, &mut threads, count, &mut markers, 0, ALLOWED, &mut |made| {
+        text += &format!("{} {} {}\n", made.receiver, made.sender, made.marker)
+    });
     match walked {
         Ok(walked) => {
             let ending = match walked.ending {

@@ -7,16 +7,8 @@ use crate::Refusal;
 /// What the checker says of an array and a table.
 #[derive(Clone, Debug, PartialEq, Eq)]
 pub enum Verdict {
-    Held {
-        nodes: usize,
-        names: usize,
-        balances: usize,
-        claims: usize,
-    },
-    Rule {
-        number: u8,
-        place: Vec<usize>,
-    },
+    Held { nodes: usize, names: usize, balances: usize, claims: usize },
+    Rule { number: u8, place: Vec<usize> },
     Refused(Refusal),
 }
 
@@ -34,11 +26,7 @@ pub fn check(array: &[u8], table: &[u8]) -> Verdict {
 
 /// Applies the rules in number order. The table must be one read for the array.
 pub fn judge(array: &Array, table: &Table) -> Verdict {
-    let loads: Vec<Vec<u64>> = table
-        .balances()
-        .iter()
-        .map(|balance| loads(array, balance))
-        .collect();
+    let loads: Vec<Vec<u64>> = table.balances().iter().map(|balance| loads(array, balance)).collect();
     let broken = None
         .or_else(|| rule_1(array, table).map(|place| (1, place)))
         .or_else(|| rule_2(table, &loads).map(|place| (2, place)))
@@ -150,9 +138,10 @@ fn rule_4(array: &Array, table: &Table, loads: &[Vec<u64>]) -> Option<Vec<usize>
 /// The agent's weight times (most + 1) exceeds the bound.
 fn rule_5(table: &Table) -> Option<Vec<usize>> {
     let claim = table.claims().iter().position(|claim| {
-        let holds = table.balances().get(claim.balance).is_some_and(|balance| {
-            balance.weight(claim.agent) * (u64::from(claim.most) + 1) > balance.bound()
-        });
+        let holds = table
+            .balances()
+            .get(claim.balance)
+            .is_some_and(|balance| balance.weight(claim.agent) * (u64::from(claim.most) + 1) > balance.bound());
         !holds
     })?;
     Some(vec![claim])
@@ -161,9 +150,7 @@ fn rule_5(table: &Table) -> Option<Vec<usize>> {
 /// The in and resource nodes, and the out nodes, in rising order.
 fn agents(array: &Array) -> (Vec<usize>, Vec<usize>) {
     let nodes = array.nodes();
-    let receivers = (0..nodes.len())
-        .filter(|i| nodes[*i].is_receiver())
-        .collect();
+    let receivers = (0..nodes.len()).filter(|i| nodes[*i].is_receiver()).collect();
     let senders = (0..nodes.len()).filter(|i| nodes[*i].is_sender()).collect();
     (receivers, senders)
 }

@@ -98,18 +98,10 @@ pub fn read_table_for(array: &Array, file: &[u8]) -> Result<Table, Refusal> {
         return refuse(18);
     }
 
-    let rows: Vec<Names> = file[..balances_start]
-        .chunks_exact(ROW)
-        .map(Names::read)
-        .collect();
-    refuse_at(
-        19,
-        (0..rows.len()).filter(|i| !rows[*i].within(array.opened())),
-    )?;
+    let rows: Vec<Names> = file[..balances_start].chunks_exact(ROW).map(Names::read).collect();
+    refuse_at(19, (0..rows.len()).filter(|i| !rows[*i].within(array.opened())))?;
 
-    let parts: Vec<&[u8]> = file[balances_start..claims_start]
-        .chunks_exact(balance_length)
-        .collect();
+    let parts: Vec<&[u8]> = file[balances_start..claims_start].chunks_exact(balance_length).collect();
     let balances: Vec<Balance> = parts.iter().map(|part| read_balance(part, nodes)).collect();
     let wrong_balance = |i: &usize| {
         let padded = parts[*i][4 + 2 * nodes..].iter().any(|byte| *byte != 0);
@@ -118,38 +110,21 @@ pub fn read_table_for(array: &Array, file: &[u8]) -> Result<Table, Refusal> {
     };
     refuse_at(20, (0..balance_count).filter(wrong_balance))?;
 
-    let parts: Vec<&[u8]> = file[claims_start..trailer_start]
-        .chunks_exact(CLAIM)
-        .collect();
+    let parts: Vec<&[u8]> = file[claims_start..trailer_start].chunks_exact(CLAIM).collect();
     let claims: Vec<Claim> = parts.iter().map(|part| read_claim(part)).collect();
     let wrong_claim = |i: &usize| {
         let claim = claims[*i];
-        array.agent(claim.agent).is_none()
-            || claim.balance >= balance_count
-            || number16(parts[*i], 6) != 0
+        array.agent(claim.agent).is_none() || claim.balance >= balance_count || number16(parts[*i], 6) != 0
     };
     refuse_at(21, (0..claim_count).filter(wrong_claim))?;
 
-    Ok(Table {
-        rows,
-        balances,
-        claims,
-    })
+    Ok(Table { rows, balances, claims })
 }
 
 fn read_balance(part: &[u8], nodes: usize) -> Balance {
-    Balance {
-        bound: number32(part, 0),
-        weights: (0..nodes)
-            .map(|node| number16(part, 4 + 2 * node))
-            .collect(),
-    }
+    Balance { bound: number32(part, 0), weights: (0..nodes).map(|node| number16(part, 4 + 2 * node)).collect() }
 }
 
 fn read_claim(part: &[u8]) -> Claim {
-    Claim {
-        agent: usize::from(number16(part, 0)),
-        most: number16(part, 2),
-        balance: usize::from(number16(part, 4)),
-    }
+    Claim { agent: usize::from(number16(part, 0)), most: number16(part, 2), balance: usize::from(number16(part, 4)) }
 }

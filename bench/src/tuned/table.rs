@@ -35,10 +35,7 @@ impl Table<'_> {
 
     #[inline(always)]
     pub unsafe fn weight(&self, k: usize, node: usize) -> u16 {
-        u16_at(
-            self.file,
-            self.balances_at + k * self.balance_size + 4 + 2 * node,
-        )
+        u16_at(self.file, self.balances_at + k * self.balance_size + 4 + 2 * node)
     }
 
     pub unsafe fn claim(&self, c: usize) -> Claim {
@@ -90,14 +87,7 @@ fn frame<'a>(array: &Array, file: &'a [u8]) -> Result<Table<'a>, u64> {
         if u32_at(file, len - 12) != array.sum {
             return Err(refusal(18, 0));
         }
-        Ok(Table {
-            file,
-            balances,
-            claims,
-            balance_size,
-            balances_at,
-            claims_at,
-        })
+        Ok(Table { file, balances, claims, balance_size, balances_at, claims_at })
     }
 }
 
@@ -123,9 +113,7 @@ unsafe fn check_balances(array: &Array, table: &Table) -> Result<(), u64> {
         }
     }
     for k in 0..table.balances {
-        let bits = (0..padded).fold(0, |bits, i| {
-            bits | table.weight(k, i) & *barred.get_unchecked(i)
-        });
+        let bits = (0..padded).fold(0, |bits, i| bits | table.weight(k, i) & *barred.get_unchecked(i));
         if bits != 0 {
             return Err(refusal(20, k));
         }

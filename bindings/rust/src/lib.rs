@@ -57,7 +57,14 @@ pub fn check(array: &[u8], table: &[u8]) -> u64 {
 
 pub fn start(array: &[u8], choices: &[u8], threads: &mut [u32]) -> u64 {
     unsafe {
-        c::handover_start(array.as_ptr(), array.len(), choices.as_ptr(), choices.len(), threads.as_mut_ptr(), threads.len())
+        c::handover_start(
+            array.as_ptr(),
+            array.len(),
+            choices.as_ptr(),
+            choices.len(),
+            threads.as_mut_ptr(),
+            threads.len(),
+        )
     }
 }
 

@@ -129,9 +129,9 @@ module _ (f choices : List ℕ) (m : Memory) where
 
 -- ---- the promises
 
-leaves-by : (o : Left) (y : Reply) (r : ℕ) (l ml : List ℕ) → left y l ml ≡ o → FitsReply (o .reply) → r ≡ packedReply y → Leaves o r l ml
-leaves-by o y r l ml e h q = record {
-  returns = q ∙ ap (λ (x : Left). packedReply (x .reply)) e;
+leaves-by : (made : ℕ) (o : Left) (y : Reply) (r : ℕ) (l ml : List ℕ) → left y l ml ≡ o → FitsReply (o .reply) → r ≡ packedReply made y → Leaves made o r l ml
+leaves-by made o y r l ml e h q = record {
+  returns = q ∙ ap (λ (x : Left). packedReply made (x .reply)) e;
   threads = ap (λ (x : Left). x .threads) e;
   markers = ap (λ (x : Left). x .markers) e;
   fits = h;
@@ -142,19 +142,19 @@ module _ (f choices : List ℕ) (m : Memory) where
     pub start-answer : FitsReply (saysStart x)
     start-answer = subst (λ (o : Left). FitsReply (o .reply)) (sym (p .leaves)) (start-of f choices m)
 
-    pub starts : (r : ℕ) → r ≡ packedReply (saysStart x) → Starts f choices m r l
-    starts r e = record { leaves = leaves-by _ _ r l [] (p .leaves) (start-of f choices m) e; promise = (x, p) }
+    pub starts : (r : ℕ) → r ≡ packedReply 0 (saysStart x) → Starts f choices m r l
+    starts r e = record { leaves = leaves-by 0 _ _ r l [] (p .leaves) (start-of f choices m) e; promise = (x, p) }
 
   module _ (i j : ℕ) (x : StepAnswer) (l ml : List ℕ) (p : StepPromise f choices m i j x l ml) where
     pub step-answer : FitsReply (saysStep x)
     step-answer = subst (λ (o : Left). FitsReply (o .reply)) (sym (p .leaves)) (step-of f choices m i j)
 
-    pub steps : (r : ℕ) → r ≡ packedReply (saysStep x) → Steps f choices m i j r l ml
-    steps r e = record { leaves = leaves-by _ _ r l ml (p .leaves) (step-of f choices m i j) e; promise = (x, p) }
+    pub steps : (r : ℕ) → r ≡ packedReply 1 (saysStep x) → Steps f choices m i j r l ml
+    steps r e = record { leaves = leaves-by 1 _ _ r l ml (p .leaves) (step-of f choices m i j) e; promise = (x, p) }
 
   module _ (allowed : ℕ) (small : allowed < 2 ^ 32) (x : WalkAnswer) (l ml : List ℕ) (p : WalkPromise f choices m allowed x l ml) where
     pub walk-answer : FitsReply (saysWalk x)
     walk-answer = subst (λ (o : Left). FitsReply (o .reply)) (sym (p .leaves)) (walk-of f choices m allowed small x l ml p)
 
-    pub walks : (r : ℕ) → r ≡ packedReply (saysWalk x) → Walks f choices m allowed r l ml
-    walks r e = record { leaves = leaves-by _ _ r l ml (p .leaves) (walk-of f choices m allowed small x l ml p) e; promise = (x, p) }
+    pub walks : (r : ℕ) → r ≡ packedReply 0 (saysWalk x) → Walks f choices m allowed r l ml
+    walks r e = record { leaves = leaves-by 0 _ _ r l ml (p .leaves) (walk-of f choices m allowed small x l ml p) e; promise = (x, p) }

@@ -40,13 +40,14 @@ ending M.full = 2
 abbrev pub counted : ℕ → ℕ → ℕ → ℕ → ℕ
 counted code threads markers steps = code + 2 ^ 8 * threads + 2 ^ 18 * markers + 2 ^ 32 * steps
 
--- a start, a step or a walk never answers by the two replies of one told step
-abbrev pub packedReply : Reply → ℕ
-packedReply (E.counts k j) = counted 0 k j 0
-packedReply (E.turned p q y k j) = 0
-packedReply (E.ended x) = 0
-packedReply (E.walked x n k j) = counted (ending x) k j n
-packedReply (E.refused n p) = denied n p
+-- where an answer has counts alone, `made` are the steps made: none by a start, one by a step; a walk tells its own. The two replies
+-- of one told step are never those of a start, a step or a walk.
+abbrev pub packedReply : ℕ → Reply → ℕ
+packedReply made (E.counts k j) = counted 0 k j made
+packedReply made (E.turned p q y k j) = 0
+packedReply made (E.ended x) = 0
+packedReply made (E.walked x n k j) = counted (ending x) k j n
+packedReply made (E.refused n p) = denied n p
 
 -- ---- each part stays within its bits, so a caller reads it back by shifts and masks
 
@@ -82,20 +83,20 @@ pub record Checks (f s : List ℕ) (r : ℕ) : Type 0 where
   pub holds : r ≡ 0 → Demand3 f s
 
 -- the number, and every word of both lists
-pub record Leaves (o : Left) (r : ℕ) (l ml : List ℕ) : Type 0 where
-  pub returns : r ≡ packedReply (o .reply)
+pub record Leaves (made : ℕ) (o : Left) (r : ℕ) (l ml : List ℕ) : Type 0 where
+  pub returns : r ≡ packedReply made (o .reply)
   pub threads : l ≡ o .threads
   pub markers : ml ≡ o .markers
   pub fits : FitsReply (o .reply)
 
 pub record Starts (f choices : List ℕ) (m : Memory) (r : ℕ) (l : List ℕ) : Type 0 where
-  pub leaves : Leaves (startOf f choices m) r l []
+  pub leaves : Leaves 0 (startOf f choices m) r l []
   pub promise : (x : StartAnswer) × StartPromise f choices m x l
 
 pub record Steps (f choices : List ℕ) (m : Memory) (receiver sender r : ℕ) (l ml : List ℕ) : Type 0 where
-  pub leaves : Leaves (stepOf f choices m receiver sender) r l ml
+  pub leaves : Leaves 1 (stepOf f choices m receiver sender) r l ml
   pub promise : (x : StepAnswer) × StepPromise f choices m receiver sender x l ml
 
 pub record Walks (f choices : List ℕ) (m : Memory) (allowed r : ℕ) (l ml : List ℕ) : Type 0 where
-  pub leaves : Leaves (walkOf f choices m allowed) r l ml
+  pub leaves : Leaves 0 (walkOf f choices m allowed) r l ml
   pub promise : (x : WalkAnswer) × WalkPromise f choices m allowed x l ml

@@ -74,7 +74,7 @@ fn pack_verdict(v: Verdict) -> u64
 // The number of a start's answer.
 fn pack_start(x: StartAnswer) -> u64
     requires { ⌜ FitsReply (saysStart x) ⌝ }
-    ensures { λ r. ⌜ r ≡ packedReply (saysStart x) ⌝ }
+    ensures { λ r. ⌜ r ≡ packedReply 0 (saysStart x) ⌝ }
 {
     match x {
         StartAnswer::Started(threads) => pack_counts(0, threads, 0, 0),
@@ -85,10 +85,10 @@ fn pack_start(x: StartAnswer) -> u64
 // The number of a step's answer.
 fn pack_step(x: StepAnswer) -> u64
     requires { ⌜ FitsReply (saysStep x) ⌝ }
-    ensures { λ r. ⌜ r ≡ packedReply (saysStep x) ⌝ }
+    ensures { λ r. ⌜ r ≡ packedReply 1 (saysStep x) ⌝ }
 {
     match x {
-        StepAnswer::Stepped(threads, markers) => pack_counts(0, threads, markers, 0),
+        StepAnswer::Stepped(threads, markers) => pack_counts(0, threads, markers, 1),
         StepAnswer::Refused(r) => pack_refusal(r),
     }
 }
@@ -96,7 +96,7 @@ fn pack_step(x: StepAnswer) -> u64
 // The number of a walk's answer.
 fn pack_walk(x: WalkAnswer) -> u64
     requires { ⌜ FitsReply (saysWalk x) ⌝ }
-    ensures { λ r. ⌜ r ≡ packedReply (saysWalk x) ⌝ }
+    ensures { λ r. ⌜ r ≡ packedReply 0 (saysWalk x) ⌝ }
 {
     match x {
         WalkAnswer::Walked(w) => {

@@ -9,9 +9,7 @@ use plain::table::LONGEST_TABLE;
 
 /// A file that can't be opened or read counts as empty.
 fn contents(path: &str, longest: usize) -> Vec<u8> {
-    File::open(path)
-        .and_then(|file| read_up_to(file, longest))
-        .unwrap_or_default()
+    File::open(path).and_then(|file| read_up_to(file, longest)).unwrap_or_default()
 }
 
 fn main() -> io::Result<()> {

@@ -45,11 +45,7 @@ impl<'a> Reader<'a> {
     /// A position or a count: the largest word stands for the largest one.
     fn position(&mut self) -> Result<usize, Bad> {
         let word = self.word()?;
-        Ok(if word == u32::MAX {
-            usize::MAX
-        } else {
-            word as usize
-        })
+        Ok(if word == u32::MAX { usize::MAX } else { word as usize })
     }
 
     /// Things of so many bytes behind their count, padded to 4 bytes.
@@ -75,9 +71,7 @@ struct Replay<'a> {
 }
 
 fn check_number(list: impl Iterator<Item = u32>) -> u32 {
-    list.fold(7, |h, x| {
-        ((u64::from(h) * 31 + u64::from(x)) % 4_294_967_296) as u32
-    })
+    list.fold(7, |h, x| ((u64::from(h) * 31 + u64::from(x)) % 4_294_967_296) as u32)
 }
 
 fn refused(refusal: Refusal) -> String {
@@ -94,14 +88,8 @@ impl<'a> Replay<'a> {
             name,
             array,
             choices,
-            threads: words
-                .chunks_exact(4)
-                .map(|word| u32::from_le_bytes(word.try_into().unwrap()))
-                .collect(),
-            markers: numbers
-                .chunks_exact(2)
-                .map(|number| u16::from_le_bytes(number.try_into().unwrap()))
-                .collect(),
+            threads: words.chunks_exact(4).map(|word| u32::from_le_bytes(word.try_into().unwrap())).collect(),
+            markers: numbers.chunks_exact(2).map(|number| u16::from_le_bytes(number.try_into().unwrap())).collect(),
             thread_count: reader.position()?,
             marker_count: reader.position()?,
         })
@@ -158,10 +146,7 @@ impl<'a> Replay<'a> {
                     Ending::Spent => "spent",
                     Ending::Full => "full",
                 };
-                format!(
-                    "walked {ending} {} {} {}",
-                    walked.steps, walked.counts.threads, walked.counts.markers
-                )
+                format!("walked {ending} {} {} {}", walked.steps, walked.counts.threads, walked.counts.markers)
             }
             Err(refusal) => refused(refusal),
         }
@@ -182,10 +167,7 @@ impl<'a> Replay<'a> {
             Ok(Stride::Made(made, counts)) => {
                 self.thread_count = counts.threads;
                 self.marker_count = counts.markers;
-                format!(
-                    "made {} {} {} {} {}",
-                    made.receiver, made.sender, made.marker, counts.threads, counts.markers
-                )
+                format!("made {} {} {} {} {}", made.receiver, made.sender, made.marker, counts.threads, counts.markers)
             }
             Err(refusal) => refused(refusal),
         }

@@ -42,9 +42,7 @@ pub fn resource(channel: u8, arguments: &[u8], left: u16) -> Record {
 }
 
 fn sum(bytes: &[u8]) -> u32 {
-    let words = bytes
-        .chunks(4)
-        .map(|word| u32::from_le_bytes(word.try_into().unwrap()));
+    let words = bytes.chunks(4).map(|word| u32::from_le_bytes(word.try_into().unwrap()));
     words.fold(0, u32::wrapping_add)
 }
 
@@ -88,11 +86,7 @@ pub struct Parts {
 }
 
 pub fn table(array: &[u8], parts: &Parts) -> Vec<u8> {
-    let nodes = usize::from(u16::from_le_bytes(
-        array[array.len() - 12..array.len() - 10]
-            .try_into()
-            .unwrap(),
-    ));
+    let nodes = usize::from(u16::from_le_bytes(array[array.len() - 12..array.len() - 10].try_into().unwrap()));
     let mut file = Vec::new();
     for row in &parts.rows {
         let mut bytes = [0; 32];
@@ -111,13 +105,7 @@ pub fn table(array: &[u8], parts: &Parts) -> Vec<u8> {
         file.extend(all.iter().flat_map(|weight| weight.to_le_bytes()));
     }
     let claims = file.len() as u32;
-    file.extend(
-        parts
-            .claims
-            .iter()
-            .flatten()
-            .flat_map(|number| number.to_le_bytes()),
-    );
+    file.extend(parts.claims.iter().flatten().flat_map(|number| number.to_le_bytes()));
     file.extend(0u32.to_le_bytes());
     file.extend(balances.to_le_bytes());
     file.extend(claims.to_le_bytes());
@@ -131,16 +119,7 @@ pub fn table(array: &[u8], parts: &Parts) -> Vec<u8> {
 }
 
 pub fn records_a() -> Vec<Record> {
-    vec![
-        new(0, 1),
-        new(1, 2),
-        par(3, 5),
-        out(0, &[1], 4),
-        stop(),
-        input(0, &[2], 6),
-        out(2, &[], 7),
-        stop(),
-    ]
+    vec![new(0, 1), new(1, 2), par(3, 5), out(0, &[1], 4), stop(), input(0, &[2], 6), out(2, &[], 7), stop()]
 }
 
 pub fn array_a() -> Vec<u8> {
@@ -156,35 +135,16 @@ pub fn parts_a() -> Parts {
 }
 
 pub fn array_b() -> Vec<u8> {
-    let records = [
-        new(0, 1),
-        par(2, 4),
-        out(0, &[], 3),
-        stop(),
-        resource(0, &[], 5),
-        out(0, &[], 6),
-        stop(),
-    ];
+    let records = [new(0, 1), par(2, 4), out(0, &[], 3), stop(), resource(0, &[], 5), out(0, &[], 6), stop()];
     array(1, &records)
 }
 
 pub fn array_c() -> Vec<u8> {
-    let records = [
-        new(0, 1),
-        choice(2, 4),
-        out(0, &[], 3),
-        stop(),
-        input(0, &[], 5),
-        stop(),
-    ];
+    let records = [new(0, 1), choice(2, 4), out(0, &[], 3), stop(), input(0, &[], 5), stop()];
     array(1, &records)
 }
 
 /// Row {0} and one balance.
 pub fn one_row(bound: u32, weights: &[(usize, u16)]) -> Parts {
-    Parts {
-        rows: vec![vec![0]],
-        balances: vec![(bound, weights.to_vec())],
-        claims: vec![],
-    }
+    Parts { rows: vec![vec![0]], balances: vec![(bound, weights.to_vec())], claims: vec![] }
 }

@@ -9,19 +9,11 @@ use crate::*;
 const LEFT: [u8; 128] = [0; 128];
 
 fn held(nodes: usize, names: usize, balances: usize, claims: usize) -> Verdict {
-    Verdict::Held {
-        nodes,
-        names,
-        balances,
-        claims,
-    }
+    Verdict::Held { nodes, names, balances, claims }
 }
 
 fn rule(number: u8, place: &[usize]) -> Verdict {
-    Verdict::Rule {
-        number,
-        place: place.to_vec(),
-    }
+    Verdict::Rule { number, place: place.to_vec() }
 }
 
 fn judged(array: &[u8], parts: &Parts) -> Verdict {
@@ -124,22 +116,10 @@ fn b_after_two_steps() {
     assert_eq!(start(&b, &LEFT, &mut threads), Ok(2));
     assert_eq!(threads, [2, 0, 1, 4, 0, 1, 99, 99, 99, 99, 99, 99]);
     let counts = step(&b, &LEFT, &mut threads, 2, &mut markers, 0, 1, 0);
-    assert_eq!(
-        counts,
-        Ok(Counts {
-            threads: 2,
-            markers: 1
-        })
-    );
+    assert_eq!(counts, Ok(Counts { threads: 2, markers: 1 }));
     assert_eq!(threads[..6], [4, 0, 1, 5, 1, 1]);
     let counts = step(&b, &LEFT, &mut threads, 2, &mut markers, 1, 0, 1);
-    assert_eq!(
-        counts,
-        Ok(Counts {
-            threads: 2,
-            markers: 2
-        })
-    );
+    assert_eq!(counts, Ok(Counts { threads: 2, markers: 2 }));
     assert_eq!(threads, [4, 0, 1, 5, 2, 1, 99, 99, 99, 99, 99, 99]);
     assert_eq!(markers, [4, 2, 0, 0, 4, 5, 0, 1, 99, 99, 99, 99]);
 }
@@ -196,27 +176,12 @@ fn channels_differ_by_marker() {
     for (receiver, sender, ready) in [(2, 1, true), (2, 3, false), (4, 1, false), (4, 3, true)] {
         let attempted = attempt(&array, &free, receiver, sender, &left);
         let mut lent = (threads, markers);
-        let stepped = step(
-            &file,
-            &LEFT,
-            &mut lent.0,
-            5,
-            &mut lent.1,
-            2,
-            receiver,
-            sender,
-        );
+        let stepped = step(&file, &LEFT, &mut lent.0, 5, &mut lent.1, 2, receiver, sender);
         if ready {
             assert!(attempted.is_ok() && stepped.is_ok());
         } else {
             assert_eq!(attempted, Err(27));
-            assert_eq!(
-                stepped,
-                Err(Refusal {
-                    number: 27,
-                    place: 0
-                })
-            );
+            assert_eq!(stepped, Err(Refusal { number: 27, place: 0 }));
         }
     }
 }
@@ -227,12 +192,7 @@ fn c_is_accepted_and_its_pair_is_not_live() {
     let parts = one_row(1, &[(2, 1), (4, 1)]);
     assert_eq!(judged(&c, &parts), held(6, 1, 1, 0));
     let table = table(&c, &parts);
-    assert!(!live(
-        &read_array(&c).unwrap(),
-        &read_table(&c, &table).unwrap(),
-        4,
-        2
-    ));
+    assert!(!live(&read_array(&c).unwrap(), &read_table(&c, &table).unwrap(), 4, 2));
 }
 
 #[test]
@@ -275,10 +235,7 @@ fn one_stop_is_read() {
 
 #[test]
 fn no_nodes_and_too_many() {
-    let three = Err(Refusal {
-        number: 3,
-        place: 0,
-    });
+    let three = Err(Refusal { number: 3, place: 0 });
     assert_eq!(read_array(&array(0, &[])), three);
     assert_eq!(read_array(&array(0, &vec![stop(); 1025])), three);
 }
@@ -291,18 +248,8 @@ fn b_walks() {
         let mut markers = [0; 8];
         let count = start(&b, &LEFT, &mut threads).unwrap();
         let walked = walk(&b, &LEFT, &mut threads, count, &mut markers, 0, allowed);
-        let counts = Counts {
-            threads: 2,
-            markers: allowed as usize,
-        };
-        assert_eq!(
-            walked,
-            Ok(Walked {
-                ending: Ending::Spent,
-                steps: allowed,
-                counts
-            })
-        );
+        let counts = Counts { threads: 2, markers: allowed as usize };
+        assert_eq!(walked, Ok(Walked { ending: Ending::Spent, steps: allowed, counts }));
     }
 }
 
@@ -313,18 +260,8 @@ fn b_fills_its_markers() {
     let mut markers = [0; 9];
     let count = start(&b, &LEFT, &mut threads).unwrap();
     let walked = walk(&b, &LEFT, &mut threads, count, &mut markers, 0, 3);
-    let counts = Counts {
-        threads: 2,
-        markers: 2,
-    };
-    assert_eq!(
-        walked,
-        Ok(Walked {
-            ending: Ending::Full,
-            steps: 2,
-            counts
-        })
-    );
+    let counts = Counts { threads: 2, markers: 2 };
+    assert_eq!(walked, Ok(Walked { ending: Ending::Full, steps: 2, counts }));
     assert_eq!(threads, [4, 0, 1, 5, 2, 1]);
     assert_eq!(markers, [4, 2, 0, 0, 4, 5, 0, 1, 0]);
 }
@@ -334,25 +271,11 @@ fn b_strides() {
     let b = array_b();
     let mut threads = [0; 6];
     let mut markers = [0; 8];
-    let mut counts = Counts {
-        threads: start(&b, &LEFT, &mut threads).unwrap(),
-        markers: 0,
-    };
+    let mut counts = Counts { threads: start(&b, &LEFT, &mut threads).unwrap(), markers: 0 };
     for sender in [2, 5] {
-        let made = stride(
-            &b,
-            &LEFT,
-            &mut threads,
-            counts.threads,
-            &mut markers,
-            counts.markers,
-        );
+        let made = stride(&b, &LEFT, &mut threads, counts.threads, &mut markers, counts.markers);
         counts.markers += 1;
-        let step = Made {
-            receiver: 4,
-            sender,
-            marker: counts.markers as u32,
-        };
+        let step = Made { receiver: 4, sender, marker: counts.markers as u32 };
         assert_eq!(made, Ok(Stride::Made(step, counts)));
     }
     assert_eq!(markers, [4, 2, 0, 0, 4, 5, 0, 1]);
@@ -377,28 +300,12 @@ fn a_steps_and_keeps_the_words_behind() {
     let before = [3, 0, 1, 65_537, 0, 5, 0, 1, 0, 0, 7, 7];
     assert_eq!(threads, before);
     let counts = step(&a, &LEFT, &mut threads, 2, &mut [], 0, 1, 0);
-    assert_eq!(
-        counts,
-        Ok(Counts {
-            threads: 1,
-            markers: 0
-        })
-    );
+    assert_eq!(counts, Ok(Counts { threads: 1, markers: 0 }));
     assert_eq!(threads[..5], [6, 0, 0, 0, 65_537]);
     assert_eq!(threads[5..], before[5..]);
     let walked = walk(&a, &LEFT, &mut threads, 1, &mut [], 0, 0);
-    let counts = Counts {
-        threads: 1,
-        markers: 0,
-    };
-    assert_eq!(
-        walked,
-        Ok(Walked {
-            ending: Ending::Quiet,
-            steps: 0,
-            counts
-        })
-    );
+    let counts = Counts { threads: 1, markers: 0 };
+    assert_eq!(walked, Ok(Walked { ending: Ending::Quiet, steps: 0, counts }));
 }
 
 #[test]
@@ -455,18 +362,7 @@ fn refused_attempts_change_nothing() {
     assert_eq!(attempt(&a, &first, 2, 0, &left), Err(24));
     assert_eq!(attempt(&a, &first, 0, usize::MAX, &left), Err(24));
     assert_eq!(attempt(&a, &first, 0, 1, &left), Err(25));
-    let list = [
-        Attempt {
-            receiver: 9,
-            sender: 0,
-            choices: LEFT,
-        },
-        Attempt {
-            receiver: 0,
-            sender: 1,
-            choices: LEFT,
-        },
-    ];
+    let list = [Attempt { receiver: 9, sender: 0, choices: LEFT }, Attempt { receiver: 0, sender: 1, choices: LEFT }];
     assert_eq!(reached(&a, &LEFT, &list), first);
     assert_eq!(reached(&a, &LEFT, &[]), first);
 }
@@ -478,13 +374,8 @@ fn safe_looks_at_rows_balances_and_claims() {
     let left = |_| false;
     let first = begin(&array, &left);
     let second = attempt(&array, &first, 1, 0, &left).unwrap();
-    let is_safe = |parts: &Parts, configuration| {
-        safe(
-            &array,
-            &read_table(&a, &table(&a, parts)).unwrap(),
-            configuration,
-        )
-    };
+    let is_safe =
+        |parts: &Parts, configuration| safe(&array, &read_table(&a, &table(&a, parts)).unwrap(), configuration);
     assert!(is_safe(&parts_a(), &first));
     assert!(is_safe(&parts_a(), &second));
     let mut parts = parts_a();

@@ -19,9 +19,7 @@ impl Dice {
 
     fn choices(&mut self) -> [u8; 128] {
         let mut choices = [0; 128];
-        choices
-            .iter_mut()
-            .for_each(|byte| *byte = self.below(256) as u8);
+        choices.iter_mut().for_each(|byte| *byte = self.below(256) as u8);
         choices
     }
 }
@@ -61,11 +59,7 @@ fn random_array(dice: &mut Dice, most: usize) -> (Vec<u8>, usize) {
             }
             2..=4 => {
                 two = true;
-                let (left, right) = if dice.below(2) == 0 {
-                    (next, next + 1)
-                } else {
-                    (next + 1, next)
-                };
+                let (left, right) = if dice.below(2) == 0 { (next, next + 1) } else { (next + 1, next) };
                 if kind == 4 {
                     choice(left, right)
                 } else {
@@ -116,23 +110,15 @@ fn least_rows(array: &Array) -> Vec<Vec<usize>> {
             }
         }
         if rows == before {
-            return rows
-                .into_iter()
-                .map(|row| row.into_iter().collect())
-                .collect();
+            return rows.into_iter().map(|row| row.into_iter().collect()).collect();
         }
     }
 }
 
 /// A table with least rows and random weights.
 fn random_parts(dice: &mut Dice, array: &Array) -> Parts {
-    let agents: Vec<usize> = (0..array.nodes().len())
-        .filter(|i| array.agent(*i).is_some())
-        .collect();
-    let mut parts = Parts {
-        rows: least_rows(array),
-        ..Parts::default()
-    };
+    let agents: Vec<usize> = (0..array.nodes().len()).filter(|i| array.agent(*i).is_some()).collect();
+    let mut parts = Parts { rows: least_rows(array), ..Parts::default() };
     for _ in 0..dice.below(3) {
         let rarely = 1 + dice.below(12);
         let mut weights = vec![];
@@ -158,38 +144,19 @@ fn lifted(array: &Array, threads: &[u32], markers: &[u16], counts: Counts) -> Co
     let mut trees = vec![Marker::empty()];
     for entry in markers.chunks(4).take(counts.markers) {
         let part = |i: usize| trees[usize::from(entry[i])].clone();
-        trees.push(Marker::new(
-            usize::from(entry[0]),
-            usize::from(entry[1]),
-            part(2),
-            part(3),
-        ));
+        trees.push(Marker::new(usize::from(entry[0]), usize::from(entry[1]), part(2), part(3)));
     }
     let width = 2 + array.names();
     let lift = |words: &[u32]| {
         let mut names = BTreeMap::new();
-        for (name, word) in words[2..]
-            .iter()
-            .enumerate()
-            .filter(|(_, word)| **word != 0)
-        {
+        for (name, word) in words[2..].iter().enumerate().filter(|(_, word)| **word != 0) {
             let new = ((word - 1) / 65_536) as usize;
             let marker = trees[((word - 1) % 65_536) as usize].clone();
             names.insert(name, Opening { new, marker });
         }
-        Thread {
-            node: words[0] as usize,
-            marker: trees[words[1] as usize].clone(),
-            names,
-        }
+        Thread { node: words[0] as usize, marker: trees[words[1] as usize].clone(), names }
     };
-    Configuration {
-        threads: threads
-            .chunks(width)
-            .take(counts.threads)
-            .map(lift)
-            .collect(),
-    }
+    Configuration { threads: threads.chunks(width).take(counts.threads).map(lift).collect() }
 }
 
 /// Two random positions, mostly of threads that are ready.
@@ -224,25 +191,14 @@ fn engine_and_calculus_agree() {
         let mut markers = vec![0; 4096 * 4];
         let choices = dice.choices();
         let mut free = begin(&array, &|node| bit(&choices, node));
-        let mut counts = Counts {
-            threads: start(&file, &choices, &mut threads).unwrap(),
-            markers: 0,
-        };
+        let mut counts = Counts { threads: start(&file, &choices, &mut threads).unwrap(), markers: 0 };
         assert_eq!(lifted(&array, &threads, &markers, counts), free);
         for _ in 0..40 {
             let choices = dice.choices();
             let (receiver, sender) = random_pair(&mut dice, &array, &free);
             let next = attempt(&array, &free, receiver, sender, &|node| bit(&choices, node));
-            let stepped = step(
-                &file,
-                &choices,
-                &mut threads,
-                counts.threads,
-                &mut markers,
-                counts.markers,
-                receiver,
-                sender,
-            );
+            let stepped =
+                step(&file, &choices, &mut threads, counts.threads, &mut markers, counts.markers, receiver, sender);
             match (stepped, next) {
                 (Ok(after), Ok(next)) => {
                     counts = after;
@@ -276,21 +232,9 @@ fn a_walk_is_its_steps() {
         };
         let allowed = dice.below(20) as u32;
         let mut by_steps = (threads.clone(), markers.clone());
-        let walked = walk(
-            &file,
-            &choices,
-            &mut threads,
-            count,
-            &mut markers,
-            0,
-            allowed,
-        )
-        .unwrap();
+        let walked = walk(&file, &choices, &mut threads, count, &mut markers, 0, allowed).unwrap();
 
-        let mut counts = Counts {
-            threads: count,
-            markers: 0,
-        };
+        let mut counts = Counts { threads: count, markers: 0 };
         let mut steps = 0;
         let ending = 'steps: loop {
             for receiver in 0..counts.threads {
@@ -307,13 +251,9 @@ fn a_walk_is_its_steps() {
                         sender,
                     );
                     match stepped {
-                        Err(Refusal {
-                            number: 25..=27, ..
-                        }) => continue,
+                        Err(Refusal { number: 25..=27, .. }) => continue,
                         _ if steps == allowed => break 'steps Ending::Spent,
-                        Err(Refusal {
-                            number: 28..=29, ..
-                        }) => break 'steps Ending::Full,
+                        Err(Refusal { number: 28..=29, .. }) => break 'steps Ending::Full,
                         Ok(after) => {
                             by_steps = trial;
                             counts = after;
@@ -326,14 +266,7 @@ fn a_walk_is_its_steps() {
             }
             break Ending::Quiet;
         };
-        assert_eq!(
-            walked,
-            Walked {
-                ending,
-                steps,
-                counts
-            }
-        );
+        assert_eq!(walked, Walked { ending, steps, counts });
         assert_eq!((threads, markers), by_steps);
         endings[ending as usize] += 1;
     }
@@ -360,9 +293,7 @@ fn accepted_tables_are_safe() {
         for _ in 0..30 {
             let choices = dice.choices();
             let (receiver, sender) = random_pair(&mut dice, &array, &configuration);
-            let next = attempt(&array, &configuration, receiver, sender, &|node| {
-                bit(&choices, node)
-            });
+            let next = attempt(&array, &configuration, receiver, sender, &|node| bit(&choices, node));
             if let Ok(next) = next {
                 configuration = next;
                 steps += 1;
@@ -383,18 +314,10 @@ fn spoiled_files_are_refused_or_read() {
             Ok(array) => table(&file, &random_parts(&mut dice, &array)),
             Err(refusal) => panic!("{refusal:?}"),
         };
-        let spoiled = if round % 2 == 0 {
-            &mut file
-        } else {
-            &mut bytes
-        };
+        let spoiled = if round % 2 == 0 { &mut file } else { &mut bytes };
         for _ in 0..dice.below(3) {
             let at = dice.below(spoiled.len());
-            spoiled[at] = if dice.below(2) == 0 {
-                dice.below(12)
-            } else {
-                dice.below(256)
-            } as u8;
+            spoiled[at] = if dice.below(2) == 0 { dice.below(12) } else { dice.below(256) } as u8;
         }
         if dice.below(4) > 0 {
             mend(spoiled);
@@ -411,52 +334,24 @@ fn spoiled_files_are_refused_or_read() {
         let started = start(&file, &choices, &mut threads).unwrap_or(0);
         if dice.below(4) == 0 {
             let at = dice.below(threads.len());
-            threads[at] =
-                [dice.below(20), 65_536 * dice.below(20) + dice.below(5)][dice.below(2)] as u32;
+            threads[at] = [dice.below(20), 65_536 * dice.below(20) + dice.below(5)][dice.below(2)] as u32;
         }
-        markers
-            .iter_mut()
-            .for_each(|number| *number = dice.below(12) as u16);
-        let thread_count = if dice.below(4) == 0 {
-            dice.below(10)
-        } else {
-            started
-        };
+        markers.iter_mut().for_each(|number| *number = dice.below(12) as u16);
+        let thread_count = if dice.below(4) == 0 { dice.below(10) } else { started };
         let marker_count = if dice.below(4) == 0 { dice.below(6) } else { 0 };
         let (receiver, sender) = (dice.below(4), dice.below(4));
-        let stepped = step(
-            &file,
-            &choices,
-            &mut threads,
-            thread_count,
-            &mut markers,
-            marker_count,
-            receiver,
-            sender,
-        );
+        let stepped = step(&file, &choices, &mut threads, thread_count, &mut markers, marker_count, receiver, sender);
         if let Err(refusal) = stepped {
             numbers[usize::from(refusal.number)] += 1;
         }
-        let _ = walk(
-            &file,
-            &choices,
-            &mut threads,
-            thread_count,
-            &mut markers,
-            marker_count,
-            9,
-        );
+        let _ = walk(&file, &choices, &mut threads, thread_count, &mut markers, marker_count, 9);
     }
-    assert!(
-        numbers[..=27].iter().filter(|count| **count > 0).count() > 20,
-        "{numbers:?}"
-    );
+    assert!(numbers[..=27].iter().filter(|count| **count > 0).count() > 20, "{numbers:?}");
 }
 
 /// Refusal 12 by going up the tree from each node.
 fn slow_reach(array: &[Record], names: usize) -> Option<usize> {
-    let child =
-        |record: &Record, at: usize| usize::from(u16::from_le_bytes([record[at], record[at + 1]]));
+    let child = |record: &Record, at: usize| usize::from(u16::from_le_bytes([record[at], record[at + 1]]));
     let mut parent = vec![0; array.len()];
     for (i, record) in array.iter().enumerate() {
         for at in [2, 4] {

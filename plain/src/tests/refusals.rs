@@ -45,10 +45,7 @@ fn refusals_1_to_5() {
     assert_eq!(array_refusal(&with(&a, end - 12, 7)), (4, 0));
     assert_eq!(array_refusal(&with(&a, end - 16, 4)), (4, 0));
     assert_eq!(array_refusal(&with(&a, end - 13, 255)), (4, 0));
-    assert_eq!(
-        array_refusal(&array_with(&[0; 1028], 3, &records_a())),
-        (4, 0)
-    );
+    assert_eq!(array_refusal(&array_with(&[0; 1028], 3, &records_a())), (4, 0));
     assert!(read_array(&array_with(&[9; 1024], 3, &records_a())).is_ok());
     let mut wrong = a.clone();
     wrong[end - 8] ^= 1;
@@ -72,15 +69,7 @@ fn the_largest_array_is_read() {
     };
     let table = table(&file, &parts);
     assert_eq!(table.len(), 59_516);
-    assert_eq!(
-        check(&file, &table),
-        Verdict::Held {
-            nodes: 1024,
-            names: 256,
-            balances: 24,
-            claims: 256
-        }
-    );
+    assert_eq!(check(&file, &table), Verdict::Held { nodes: 1024, names: 256, balances: 24, claims: 256 });
     assert_eq!(start(&file, &LEFT, &mut [0; 258]), Ok(1));
 }
 
@@ -220,13 +209,7 @@ fn refusals_19_to_21() {
     let b = array_b();
     let parts = one_row(0, &[(7, 1)]);
     assert_eq!(table_refusal(&b, &table(&b, &parts)), (20, 0));
-    for claim in [
-        [4, 1, 0, 0],
-        [8, 1, 0, 0],
-        [65_535, 1, 0, 0],
-        [6, 1, 1, 0],
-        [6, 1, 0, 1],
-    ] {
+    for claim in [[4, 1, 0, 0], [8, 1, 0, 0], [65_535, 1, 0, 0], [6, 1, 1, 0], [6, 1, 0, 1]] {
         let mut parts = parts_a();
         parts.claims.push(claim);
         assert_eq!(table_refusal(&a, &table(&a, &parts)), (21, 1));
@@ -245,35 +228,13 @@ fn refusals_of_a_start() {
 }
 
 /// Steps and walks B with a lent configuration; both must refuse it by 23.
-fn is_misformed(
-    threads: &[u32],
-    thread_count: usize,
-    markers: &[u16],
-    marker_count: usize,
-) -> bool {
+fn is_misformed(threads: &[u32], thread_count: usize, markers: &[u16], marker_count: usize) -> bool {
     let b = array_b();
     let mut lent = (threads.to_vec(), markers.to_vec());
-    let stepped = step(
-        &b,
-        &LEFT,
-        &mut lent.0,
-        thread_count,
-        &mut lent.1,
-        marker_count,
-        usize::MAX,
-        0,
-    );
+    let stepped = step(&b, &LEFT, &mut lent.0, thread_count, &mut lent.1, marker_count, usize::MAX, 0);
     let misformed = stepped == refused(23, 0);
     assert!(misformed || stepped == refused(24, 0));
-    let walked = walk(
-        &b,
-        &LEFT,
-        &mut lent.0,
-        thread_count,
-        &mut lent.1,
-        marker_count,
-        0,
-    );
+    let walked = walk(&b, &LEFT, &mut lent.0, thread_count, &mut lent.1, marker_count, 0);
     assert_eq!(walked == refused(23, 0), misformed);
     assert_eq!(lent, (threads.to_vec(), markers.to_vec()));
     misformed
@@ -295,31 +256,12 @@ fn refusal_23() {
     let many = [5, 0, 1].repeat(257);
     assert!(!is_misformed(&many, 256, &[], 0));
     assert!(is_misformed(&many, 257, &[], 0));
-    for (at, word) in [
-        (0, 3),
-        (0, 7),
-        (0, u32::MAX),
-        (1, 3),
-        (1, 65_536),
-        (2, 0),
-        (2, 4),
-        (2, 65_537),
-        (2, u32::MAX),
-    ] {
+    for (at, word) in [(0, 3), (0, 7), (0, u32::MAX), (1, 3), (1, 65_536), (2, 0), (2, 4), (2, 65_537), (2, u32::MAX)] {
         let mut threads = threads;
         threads[at] = word;
         assert!(is_misformed(&threads, 2, &markers, 2), "{at} {word}");
     }
-    for (at, number) in [
-        (0, 2),
-        (0, 7),
-        (1, 4),
-        (1, 65_535),
-        (2, 1),
-        (3, 1),
-        (6, 2),
-        (7, 2),
-    ] {
+    for (at, number) in [(0, 2), (0, 7), (1, 4), (1, 65_535), (2, 1), (3, 1), (6, 2), (7, 2)] {
         let mut markers = markers;
         markers[at] = number;
         assert!(is_misformed(&threads, 2, &markers, 2), "{at} {number}");
@@ -329,20 +271,11 @@ fn refusal_23() {
     let a = array_a();
     for words in [[3, 0, 1, 131_073, 0], [3, 0, 1, 65_537, 1]] {
         let mut threads = words;
-        assert_eq!(
-            step(&a, &LEFT, &mut threads, 1, &mut [], 0, 0, 0),
-            refused(23, 0)
-        );
+        assert_eq!(step(&a, &LEFT, &mut threads, 1, &mut [], 0, 0, 0), refused(23, 0));
     }
     let mut threads = threads;
-    assert_eq!(
-        step(&array_b(), &[0; 129], &mut threads, 9, &mut [], 0, 0, 0),
-        refused(22, 0)
-    );
-    assert_eq!(
-        walk(&array_b(), &[], &mut threads, 9, &mut [], 0, 0),
-        refused(22, 0)
-    );
+    assert_eq!(step(&array_b(), &[0; 129], &mut threads, 9, &mut [], 0, 0, 0), refused(22, 0));
+    assert_eq!(walk(&array_b(), &[], &mut threads, 9, &mut [], 0, 0), refused(22, 0));
 }
 
 #[test]
@@ -350,18 +283,7 @@ fn refusals_24_to_27() {
     let b = array_b();
     let mut markers = [4, 2, 0, 0, 4, 5, 0, 1];
     let mut threads = [4, 0, 1, 5, 2, 1, 5, 1, 2];
-    let mut try_step = |receiver, sender| {
-        step(
-            &b,
-            &LEFT,
-            &mut threads,
-            3,
-            &mut markers,
-            2,
-            receiver,
-            sender,
-        )
-    };
+    let mut try_step = |receiver, sender| step(&b, &LEFT, &mut threads, 3, &mut markers, 2, receiver, sender);
     assert_eq!(try_step(3, 0), refused(24, 0));
     assert_eq!(try_step(0, usize::MAX), refused(24, 0));
     assert_eq!(try_step(1, 0), refused(25, 0));
@@ -386,14 +308,8 @@ fn refusals_24_to_27() {
     let file = array(3, &records);
     let mut threads = [0; 15];
     assert_eq!(start(&file, &LEFT, &mut threads), Ok(3));
-    assert_eq!(
-        step(&file, &LEFT, &mut threads, 3, &mut [], 0, 1, 0),
-        refused(26, 0)
-    );
-    assert_eq!(
-        step(&file, &LEFT, &mut threads, 3, &mut [], 0, 2, 0),
-        refused(27, 0)
-    );
+    assert_eq!(step(&file, &LEFT, &mut threads, 3, &mut [], 0, 1, 0), refused(26, 0));
+    assert_eq!(step(&file, &LEFT, &mut threads, 3, &mut [], 0, 2, 0), refused(27, 0));
 }
 
 #[test]
@@ -422,42 +338,19 @@ fn refusals_28_and_29() {
     assert_eq!(stepped, refused(29, 0));
     assert_eq!((threads, markers), (words, [7; 4]));
     let walked = walk(&file, &LEFT, &mut threads, 2, &mut markers[..3], 0, 5);
-    let counts = Counts {
-        threads: 2,
-        markers: 0,
-    };
-    assert_eq!(
-        walked,
-        Ok(Walked {
-            ending: Ending::Full,
-            steps: 0,
-            counts
-        })
-    );
+    let counts = Counts { threads: 2, markers: 0 };
+    assert_eq!(walked, Ok(Walked { ending: Ending::Full, steps: 0, counts }));
     // A marker that is listed is used, even where the markers are full.
     let mut markers = [4, 2, 0, 0];
     let stepped = step(&file, &LEFT, &mut threads, 2, &mut markers, 1, 1, 0);
-    assert_eq!(
-        stepped,
-        Ok(Counts {
-            threads: 3,
-            markers: 1
-        })
-    );
+    assert_eq!(stepped, Ok(Counts { threads: 3, markers: 1 }));
     assert_eq!(threads, [4, 0, 1, 6, 1, 1, 8, 1, 1]);
     assert_eq!(markers, [4, 2, 0, 0]);
 }
 
 #[test]
 fn a_resource_without_threads_still_appends_its_marker() {
-    let records = [
-        new(0, 1),
-        par(2, 4),
-        out(0, &[], 3),
-        stop(),
-        resource(0, &[], 5),
-        stop(),
-    ];
+    let records = [new(0, 1), par(2, 4), out(0, &[], 3), stop(), resource(0, &[], 5), stop()];
     let file = array(1, &records);
     let mut threads = [7; 6];
     assert_eq!(start(&file, &LEFT, &mut threads), Ok(2));
@@ -465,13 +358,7 @@ fn a_resource_without_threads_still_appends_its_marker() {
     assert_eq!(stepped, refused(29, 0));
     let mut markers = [7; 5];
     let stepped = step(&file, &LEFT, &mut threads, 2, &mut markers, 0, 1, 0);
-    assert_eq!(
-        stepped,
-        Ok(Counts {
-            threads: 1,
-            markers: 1
-        })
-    );
+    assert_eq!(stepped, Ok(Counts { threads: 1, markers: 1 }));
     assert_eq!(markers, [4, 2, 0, 0, 7]);
     assert_eq!(threads, [4, 0, 1, 4, 0, 1]);
 }

@@ -21,10 +21,10 @@ pack-refusal-requires : tie.Need-pack-refusal-requires
 pack-refusal-requires c κs = subst (λ (y : StartAnswer). FitsReply (saysStart y)) (c .before .x2 .given .1) (c .before .before .before .pre)
 
 returns : tie.Need-returns
-returns c = c .pack-counts .ensures ∙ ap (λ (y : StartAnswer). packedReply (saysStart y)) (sym (c .before .before .x .given .1))
+returns c = c .pack-counts .ensures ∙ ap (λ (y : StartAnswer). packedReply 0 (saysStart y)) (sym (c .before .before .x .given .1))
 
 returns-2 : tie.Need-returns-2
-returns-2 c = c .pack-refusal .ensures ∙ ap (λ (y : StartAnswer). packedReply (saysStart y)) (sym (c .before .before .x2 .given .1))
+returns-2 c = c .pack-refusal .ensures ∙ ap (λ (y : StartAnswer). packedReply 0 (saysStart y)) (sym (c .before .before .x2 .given .1))
 
 pub pack-start-spec : {M : Type 1} → statement M
 pack-start-spec =

@@ -21,10 +21,10 @@ pack-refusal-requires : tie.Need-pack-refusal-requires
 pack-refusal-requires c κs = subst (λ (y : StepAnswer). FitsReply (saysStep y)) (c .before .x2 .given .1) (c .before .before .before .pre)
 
 returns : tie.Need-returns
-returns c = c .pack-counts .ensures ∙ ap (λ (y : StepAnswer). packedReply (saysStep y)) (sym (c .before .before .x .given .1))
+returns c = c .pack-counts .ensures ∙ ap (λ (y : StepAnswer). packedReply 1 (saysStep y)) (sym (c .before .before .x .given .1))
 
 returns-2 : tie.Need-returns-2
-returns-2 c = c .pack-refusal .ensures ∙ ap (λ (y : StepAnswer). packedReply (saysStep y)) (sym (c .before .before .x2 .given .1))
+returns-2 c = c .pack-refusal .ensures ∙ ap (λ (y : StepAnswer). packedReply 1 (saysStep y)) (sym (c .before .before .x2 .given .1))
 
 pub pack-step-spec : {M : Type 1} → statement M
 pack-step-spec =

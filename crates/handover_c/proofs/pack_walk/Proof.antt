@@ -25,10 +25,10 @@ pack-refusal-requires : tie.Need-pack-refusal-requires
 pack-refusal-requires c κs = subst (λ (y : WalkAnswer). FitsReply (saysWalk y)) (c .before .x2 .given .1) (c .before .before .before .pre)
 
 returns : tie.Need-returns
-returns c = let w = c .before .before .before .x .given .0 .0 in c .pack-counts .ensures ∙ ap (λ (e : ℕ). counted e (w .threads) (w .markers) (w .steps)) (c .before .ending-code .ensures .0) ∙ ap (λ (y : WalkAnswer). packedReply (saysWalk y)) (sym (c .before .before .before .x .given .1))
+returns c = let w = c .before .before .before .x .given .0 .0 in c .pack-counts .ensures ∙ ap (λ (e : ℕ). counted e (w .threads) (w .markers) (w .steps)) (c .before .ending-code .ensures .0) ∙ ap (λ (y : WalkAnswer). packedReply 0 (saysWalk y)) (sym (c .before .before .before .x .given .1))
 
 returns-2 : tie.Need-returns-2
-returns-2 c = c .pack-refusal .ensures ∙ ap (λ (y : WalkAnswer). packedReply (saysWalk y)) (sym (c .before .before .x2 .given .1))
+returns-2 c = c .pack-refusal .ensures ∙ ap (λ (y : WalkAnswer). packedReply 0 (saysWalk y)) (sym (c .before .before .x2 .given .1))
 
 pub pack-walk-spec : {M : Type 1} → statement M
 pack-walk-spec =

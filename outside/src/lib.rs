@@ -1,0 +1,15 @@
+//! The C entries of the handover checker beside the plain version: random inputs, every answer and every lent word
+//! compared.
+
+pub mod arrays;
+pub mod damage;
+pub mod files;
+pub mod guarded;
+pub mod lists;
+pub mod packed;
+pub mod parts;
+pub mod random;
+pub mod run;
+pub mod tables;
+pub mod tally;
+pub mod watch;

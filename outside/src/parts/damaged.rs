@@ -1,0 +1,90 @@
+//! Files with faults, for every entry.
+
+use crate::lists::{Lists, Room};
+use crate::parts::{read, some_choices};
+use crate::run::{Call, Run, Setting};
+use crate::{arrays, damage, files, tables};
+
+/// One or two faults in an array file.
+pub fn arrays(run: &mut Run) {
+    let file = some_array(run);
+    let faults = two(run, 1, 12);
+    let damaged = damage::array(&mut run.random, &file, &faults);
+    let array = read(&file.bytes());
+    if run.random.once_in(4) {
+        let table = tables::accepted(&mut run.random, &array).bytes();
+        run.check(&damaged, &table);
+    } else {
+        engine_call(run, &damaged, &array);
+    }
+    run.remark(&damaged);
+}
+
+/// The array comes before choice bytes, lists and positions, which are wrong now and then.
+fn engine_call(run: &mut Run, file: &[u8], array: &plain::Array) {
+    let random = &mut run.random;
+    let choices = some_choices(random, 4);
+    let mut lists = Lists::noise(random, array, Room { threads: 2, markers: 2 });
+    lists.thread_count = random.below(4);
+    let (receiver, sender) = (random.below(3), random.below(3));
+    let calls = [Call::Start, Call::Step { receiver, sender }, Call::Walk { allowed: 3 }];
+    let call = random.pick(&calls);
+    run.call(Setting { array: file, choices: &choices }, &mut lists, call);
+}
+
+/// One or two faults in a table file, now and then one in the array file too.
+pub fn tables(run: &mut Run) {
+    let file = some_array(run);
+    let bytes = file.bytes();
+    let table = tables::accepted(&mut run.random, &read(&bytes));
+    let faults = two(run, 13, 21);
+    let damaged = damage::table(&mut run.random, &table, &faults);
+    run.check(&bytes, &damaged);
+    if run.random.once_in(16) {
+        let faults = two(run, 1, 12);
+        let array = damage::array(&mut run.random, &file, &faults);
+        run.check(&array, &damaged);
+    }
+}
+
+/// Large ones now and then, as places above 255 lie only there.
+fn some_array(run: &mut Run) -> files::ArrayFile {
+    if run.random.once_in(500) {
+        arrays::large(&mut run.random)
+    } else {
+        arrays::small(&mut run.random)
+    }
+}
+
+fn two(run: &mut Run, low: usize, high: usize) -> Vec<u8> {
+    let count = run.random.between(1, 2);
+    (0..count).map(|_| run.random.between(low, high) as u8).collect()
+}
+
+/// Every byte of two small files changed, with the old and with the new word sum, and every length below the file's.
+pub fn every_byte(run: &mut Run) {
+    let (array, table) = loop {
+        let array = arrays::small(&mut run.random).bytes();
+        let table = tables::accepted(&mut run.random, &read(&array)).bytes();
+        if array.len() <= 300 && table.len() <= 600 {
+            break (array, table);
+        }
+    };
+    for at in 0..array.len() {
+        let mut changed = array.clone();
+        changed[at] ^= run.random.between(1, 255) as u8;
+        run.check(&changed, &table);
+        run.remark(&changed);
+        files::repair(&mut changed);
+        run.check(&changed, &table);
+        run.check(&array[..at], &table);
+    }
+    for at in 0..table.len() {
+        let mut changed = table.clone();
+        changed[at] ^= run.random.between(1, 255) as u8;
+        run.check(&array, &changed);
+        files::repair(&mut changed);
+        run.check(&array, &changed);
+        run.check(&array, &table[..at]);
+    }
+}

@@ -1,0 +1,174 @@
+//! How often each answer was given.
+
+pub const ENTRIES: [&str; 4] = ["check", "start", "step", "walk"];
+pub const CHECK: usize = 0;
+pub const START: usize = 1;
+pub const STEP: usize = 2;
+pub const WALK: usize = 3;
+const REFUSALS: usize = 29;
+/// The refusals that name a place.
+const PLACED: [usize; 10] = [6, 7, 8, 9, 10, 11, 12, 19, 20, 21];
+
+/// Further counts, none of which may stay 0.
+const OTHERS: [&str; 13] = [
+    "longest arrays",
+    "longest tables",
+    "calls with NULL",
+    "configurations alike in engine and calculus",
+    "of these with a marker",
+    "accepted tables tried",
+    "of these with a weight",
+    "configurations of demand 3",
+    "steps of demand 3",
+    "attempts of demand 3 refused",
+    "broken by a row: not accepted",
+    "broken by a bound: not accepted",
+    "broken by a claim: not accepted",
+];
+
+#[derive(Clone, Copy, Default)]
+struct Refused {
+    count: u64,
+    /// Those with a place other than 0.
+    placed: u64,
+}
+
+/// What came of one sort of table.
+#[derive(Clone, Copy, Default)]
+pub struct Share {
+    pub held: u64,
+    pub broken: u64,
+    pub refused: u64,
+}
+
+#[derive(Default)]
+pub struct Tally {
+    pub cases: u64,
+    refused: [[Refused; REFUSALS + 1]; 4],
+    /// Held, then rules 1 to 5; and those whose last figure is above the least.
+    verdicts: [u64; 6],
+    later: [u64; 6],
+    /// Starts and steps that were made.
+    made: [u64; 4],
+    /// Quiet, spent, full.
+    endings: [u64; 3],
+    /// Remarks read, by whether they are empty.
+    pub remarks: [u64; 2],
+    /// Tables meant to be accepted, nearly accepted, broken.
+    pub shares: [Share; 3],
+    /// The counts named in `OTHERS`.
+    others: [u64; OTHERS.len()],
+}
+
+/// Whether an entry uses a refusal.
+fn uses(entry: usize, number: usize) -> bool {
+    match entry {
+        CHECK => number <= 21,
+        START => number <= 12 || number == 22 || number == 28,
+        STEP => number <= 12 || number >= 22,
+        _ => number <= 12 || number == 22 || number == 23,
+    }
+}
+
+impl Tally {
+    pub fn add(&mut self, entry: usize, answer: u64) {
+        self.cases += 1;
+        match handover::refusal(answer) {
+            Some(number) => {
+                let refused = &mut self.refused[entry][usize::from(number).min(REFUSALS)];
+                refused.count += 1;
+                refused.placed += u64::from(answer >> 8 != 0);
+            }
+            None if entry == CHECK => self.add_verdict(answer),
+            None if entry == WALK => self.endings[usize::from(handover::code(answer))] += 1,
+            None => self.made[entry] += 1,
+        }
+    }
+
+    fn add_verdict(&mut self, answer: u64) {
+        let rule = usize::from(handover::code(answer));
+        let figures = handover::figures(answer);
+        let later = match rule {
+            3 => figures[2] > 1,
+            4 => figures[2] > 0,
+            _ => figures[0] > 0,
+        };
+        self.verdicts[rule] += 1;
+        self.later[rule] += u64::from(later);
+    }
+
+    pub fn share(&mut self, sort: usize, answer: u64) {
+        let share = &mut self.shares[sort];
+        match handover::code(answer) {
+            0 => share.held += 1,
+            1..=99 => share.broken += 1,
+            _ => share.refused += 1,
+        }
+    }
+
+    pub fn other(&mut self, what: &str, more: u64) {
+        let at = OTHERS.iter().position(|other| *other == what).expect("a count of the list");
+        self.others[at] += more;
+    }
+
+    /// Prints all counts. Gives what is wrong: answers never given, and refusals by an entry that does not use them.
+    pub fn print(&self) -> Vec<String> {
+        let mut wrong = Vec::new();
+        println!("refusals: count, and of these with a place other than 0 where a place is named");
+        println!("{:>8}{}", "number", ENTRIES.map(|entry| format!("{entry:>18}")).concat());
+        for number in 1..=REFUSALS {
+            let cells = [CHECK, START, STEP, WALK].map(|entry| self.cell(entry, number, &mut wrong));
+            println!("{number:>8}{}", cells.concat());
+        }
+        self.print_answers(&mut wrong);
+        for (name, share) in ["accepted", "nearly accepted", "broken"].iter().zip(&self.shares) {
+            println!("tables meant as {name}: held {}, rule {}, refused {}", share.held, share.broken, share.refused);
+        }
+        println!("cases: {}", self.cases);
+        wrong
+    }
+
+    /// One refusal of one entry.
+    fn cell(&self, entry: usize, number: usize, wrong: &mut Vec<String>) -> String {
+        let Refused { count, placed } = self.refused[entry][number];
+        let named = PLACED.contains(&number);
+        let name = ENTRIES[entry];
+        if !uses(entry, number) {
+            if count > 0 {
+                wrong.push(format!("{name} does not use refusal {number}"));
+            }
+            return format!("{:>18}", "-");
+        }
+        if count == 0 || named && placed == 0 {
+            wrong.push(format!("{name} never gave refusal {number}, or never with a place"));
+        }
+        if !named && placed > 0 {
+            wrong.push(format!("{name} gave a place to refusal {number}"));
+        }
+        let places = if named { format!("{placed}") } else { String::new() };
+        format!("{count:>9}{places:>9}")
+    }
+
+    fn print_answers(&self, wrong: &mut Vec<String>) {
+        let verdicts = ["held", "rule 1", "rule 2", "rule 3", "rule 4", "rule 5"];
+        let mut counts: Vec<(&str, u64)> = verdicts.into_iter().zip(self.verdicts).collect();
+        let later = [
+            "rule 1 at a name above 0",
+            "rule 2 at a balance above 0",
+            "rule 3 at an argument above 1",
+            "rule 4 at a balance above 0",
+            "rule 5 at a claim above 0",
+        ];
+        counts.extend(later.into_iter().zip(self.later.into_iter().skip(1)));
+        counts.extend(["quiet", "spent", "full"].into_iter().zip(self.endings));
+        counts.extend([("starts made", self.made[START]), ("steps made", self.made[STEP])]);
+        counts.extend(["remarks, empty or of a refused file", "remarks, not empty"].into_iter().zip(self.remarks));
+        counts.extend(OTHERS.into_iter().zip(self.others));
+        for (name, count) in counts {
+            println!("{name}: {count}");
+            if count == 0 {
+                wrong.push(format!("{name}: never"));
+            }
+        }
+    }
+}
