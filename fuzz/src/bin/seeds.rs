@@ -1,0 +1,92 @@
+//! Writes the corpus that the fuzzer starts from: the examples, the stored pairs of files, the stored arrays, and random arrays with
+//! accepted, nearly accepted and broken tables, each with some calls. Argument: the folder.
+
+use outside::random::Random;
+use outside::{arrays, parts, tables};
+use std::fs;
+use std::io;
+use std::path::Path;
+
+const REPAIR_BOTH: u8 = 3;
+/// Larger files only slow the fuzzer down.
+const MOST_BYTES: usize = 8000;
+const RANDOM: u64 = 300;
+
+type Pair = (String, Vec<u8>, Vec<u8>);
+
+/// A start, the steps of the first threads with each other, and two walks.
+fn calls() -> Vec<u8> {
+    let mut calls = vec![0, 0, 0];
+    for (receiver, sender) in (0..4).flat_map(|r| (0..4).map(move |s| (r, s))) {
+        calls.extend([1, 0, 0, receiver, sender]);
+    }
+    calls.extend([4, 0, 0, 5, 4, 0, 0, 30]);
+    calls
+}
+
+fn seed(array: &[u8], table: &[u8]) -> Vec<u8> {
+    let mut bytes = vec![REPAIR_BOTH];
+    for file in [array, table] {
+        bytes.extend((file.len() as u16).to_le_bytes());
+        bytes.extend(file);
+    }
+    let (words, numbers, fill) = (4000u16, 1000u16, 0x5a);
+    bytes.extend(words.to_le_bytes());
+    bytes.extend(numbers.to_le_bytes());
+    bytes.push(fill);
+    bytes.extend(calls());
+    bytes
+}
+
+fn files_in(folder: &Path) -> io::Result<Vec<(String, Vec<u8>)>> {
+    let mut files = Vec::new();
+    for entry in fs::read_dir(folder)? {
+        let path = entry?.path();
+        let name = path.file_name().expect("a file has a name").to_string_lossy().into_owned();
+        files.push((name, fs::read(path)?));
+    }
+    Ok(files)
+}
+
+fn examples(root: &Path) -> io::Result<Vec<Pair>> {
+    let mut found = Vec::new();
+    for entry in fs::read_dir(root.join("examples"))? {
+        let (path, name) = entry.map(|entry| (entry.path(), entry.file_name()))?;
+        if path.is_dir() {
+            let name = name.to_string_lossy().into_owned();
+            found.push((name, fs::read(path.join("array.pis"))?, fs::read(path.join("table.pic"))?));
+        }
+    }
+    Ok(found)
+}
+
+/// The stored pairs, named as the program `cases` is given them; a name that no file has counts as empty.
+fn stored(root: &Path) -> io::Result<Vec<Pair>> {
+    let files = files_in(&root.join("crates/cases/data"))?;
+    let content = |name: &str| files.iter().find(|file| file.0 == name).map_or(Vec::new(), |file| file.1.clone());
+    let names = fs::read_to_string(root.join("crates/cases/args"))?;
+    let names: Vec<&str> = names.split_whitespace().collect();
+    let pair = |pair: &[&str]| (pair.join("-"), content(pair[0]), content(pair[1]));
+    Ok(names.chunks_exact(2).map(pair).collect())
+}
+
+fn random(round: u64) -> Pair {
+    let mut random = Random::of(1, 0, round);
+    let array = arrays::busy(&mut random).bytes();
+    let draft = random.pick(&[tables::accepted, tables::nearly, tables::broken]);
+    let table = draft(&mut random, &parts::read(&array)).bytes();
+    (format!("random-{round}"), array, table)
+}
+
+fn main() -> io::Result<()> {
+    let root = Path::new(env!("CARGO_MANIFEST_DIR")).join("..");
+    let folder = std::env::args().nth(1).expect("the folder to write to");
+    fs::create_dir_all(&folder)?;
+    let arrays =
+        files_in(&root.join("crates/inspect/data"))?.into_iter().map(|(name, array)| (name, array, Vec::new()));
+    let pairs = examples(&root)?.into_iter().chain(stored(&root)?).chain(arrays).chain((0..RANDOM).map(random));
+    for (name, array, table) in pairs.filter(|pair| pair.1.len() + pair.2.len() <= MOST_BYTES) {
+        fs::write(Path::new(&folder).join(name), seed(&array, &table))?;
+    }
+    Ok(())
+}
