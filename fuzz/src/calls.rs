@@ -1,48 +1,19 @@
 //! Starts, steps and walks on lent lists, as the rest of an input says, with the lists changed between calls.
 
 use crate::input::Input;
-use outside::packed;
+use outside::lists::Lists;
+use outside::run::{Call, Setting};
 
 const MOST_CALLS: usize = 64;
 const MOST_STEPS: u32 = 40;
 
-#[derive(Clone, PartialEq)]
-struct Lists {
-    threads: Box<[u32]>,
-    thread_count: usize,
-    markers: Box<[u16]>,
-    marker_count: usize,
-}
-
-impl Lists {
-    fn read(input: &mut Input) -> Lists {
-        let (words, numbers, fill) = (input.short() % 8192, input.short() % 2048, input.byte());
-        Lists {
-            threads: vec![u32::from(fill) * 0x0101_0101; words.into()].into(),
-            thread_count: 0,
-            markers: vec![u16::from(fill) * 0x0101; numbers.into()].into(),
-            marker_count: 0,
-        }
-    }
-
-    fn lend(&mut self) -> handover::Lists<'_> {
-        handover::Lists {
-            threads: &mut self.threads,
-            thread_count: self.thread_count,
-            markers: &mut self.markers,
-            marker_count: self.marker_count,
-        }
-    }
-
-    /// Makes a call of both versions; what the proved one leaves is what the next call gets.
-    fn call(&mut self, proved: impl FnOnce(&mut Lists) -> u64, plain: impl FnOnce(&mut Lists) -> u64) {
-        let mut other = self.clone();
-        let answer = proved(self);
-        assert_eq!(answer, plain(&mut other), "the answer");
-        assert!(*self == other, "the lists after {answer:#x}");
-        if handover::refusal(answer).is_none() {
-            (self.thread_count, self.marker_count, _) = handover::counts(answer);
-        }
+fn lists(input: &mut Input) -> Lists {
+    let (words, numbers, fill) = (input.short() % 8192, input.short() % 2048, input.byte());
+    Lists {
+        threads: vec![u32::from(fill) * 0x0101_0101; words.into()],
+        thread_count: 0,
+        markers: vec![u16::from(fill) * 0x0101; numbers.into()],
+        marker_count: 0,
     }
 }
 
@@ -54,7 +25,7 @@ fn choices(input: &mut Input) -> Box<[u8]> {
 }
 
 pub fn compare(array: &[u8], mut input: Input) {
-    let mut lists = Lists::read(&mut input);
+    let mut lists = lists(&mut input);
     for _ in 0..MOST_CALLS {
         if input.is_empty() {
             return;
@@ -65,9 +36,11 @@ pub fn compare(array: &[u8], mut input: Input) {
 
 fn one(array: &[u8], lists: &mut Lists, input: &mut Input) {
     match input.byte() % 8 {
-        0 => start(array, lists, input),
-        1..=3 => step(array, lists, input),
-        4 => walk(array, lists, input),
+        0 => call(array, lists, input, |_| Call::Start),
+        1..=3 => {
+            call(array, lists, input, |input| Call::Step { receiver: input.byte().into(), sender: input.byte().into() })
+        }
+        4 => call(array, lists, input, |input| Call::Walk { allowed: u32::from(input.byte()) % MOST_STEPS }),
         5 => set(&mut lists.threads, input.short(), input.word()),
         6 => set(&mut lists.markers, input.short(), input.short()),
         _ => (lists.thread_count, lists.marker_count) = (input.short().into(), input.short().into()),
@@ -80,34 +53,22 @@ fn set<T>(list: &mut [T], at: u16, value: T) {
     }
 }
 
-fn start(array: &[u8], lists: &mut Lists, input: &mut Input) {
+/// Makes a call of both versions; what the proved one leaves is what the next call gets.
+fn call(array: &[u8], lists: &mut Lists, input: &mut Input, what: impl FnOnce(&mut Input) -> Call) {
     let choices = choices(input);
-    lists.call(
-        |l| handover::start(array, &choices, &mut l.threads),
-        |l| packed::started(plain::start(array, &choices, &mut l.threads)),
-    );
-}
-
-fn step(array: &[u8], lists: &mut Lists, input: &mut Input) {
-    let choices = choices(input);
-    let (receiver, sender) = (usize::from(input.byte()), usize::from(input.byte()));
-    lists.call(
-        |l| handover::step(array, &choices, l.lend(), receiver, sender),
-        |l| {
-            let (k, j) = (l.thread_count, l.marker_count);
-            packed::stepped(plain::step(array, &choices, &mut l.threads, k, &mut l.markers, j, receiver, sender))
-        },
-    );
-}
-
-fn walk(array: &[u8], lists: &mut Lists, input: &mut Input) {
-    let choices = choices(input);
-    let allowed = u32::from(input.byte()) % MOST_STEPS;
-    lists.call(
-        |l| handover::walk(array, &choices, l.lend(), allowed),
-        |l| {
-            let (k, j) = (l.thread_count, l.marker_count);
-            packed::walked(plain::walk(array, &choices, &mut l.threads, k, &mut l.markers, j, allowed))
-        },
-    );
+    let (setting, call) = (Setting { array, choices: &choices }, what(input));
+    let mut other = lists.clone();
+    let expected = call.plain(setting, &mut other);
+    let lent = handover::Lists {
+        threads: &mut lists.threads,
+        thread_count: lists.thread_count,
+        markers: &mut lists.markers,
+        marker_count: lists.marker_count,
+    };
+    let answer = call.proved(setting, lent);
+    assert_eq!(answer, expected, "the answer of {call:?}");
+    assert!(*lists == other, "the lists after {call:?}");
+    if handover::refusal(answer).is_none() {
+        (lists.thread_count, lists.marker_count, _) = handover::counts(answer);
+    }
 }

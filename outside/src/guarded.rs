@@ -1,6 +1,7 @@
 //! Buffers between inaccessible pages, so that a read or write outside them ends the program; and calls with NULL for
 //! empty buffers. Written for Linux.
 
+use handover::c;
 use std::ffi::{c_int, c_void};
 use std::ptr::{null, null_mut};
 
@@ -75,48 +76,6 @@ impl Region {
 impl Default for Region {
     fn default() -> Region {
         Region::new()
-    }
-}
-
-mod c {
-    extern "C" {
-        pub fn handover_check(array: *const u8, array_len: usize, table: *const u8, table_len: usize) -> u64;
-        pub fn handover_start(
-            array: *const u8,
-            array_len: usize,
-            choices: *const u8,
-            choices_len: usize,
-            threads: *mut u32,
-            threads_len: usize,
-        ) -> u64;
-        pub fn handover_walk(
-            array: *const u8,
-            array_len: usize,
-            choices: *const u8,
-            choices_len: usize,
-            threads: *mut u32,
-            threads_len: usize,
-            thread_count: usize,
-            markers: *mut u16,
-            markers_len: usize,
-            marker_count: usize,
-            allowed: u32,
-        ) -> u64;
-        pub fn handover_step(
-            array: *const u8,
-            array_len: usize,
-            choices: *const u8,
-            choices_len: usize,
-            threads: *mut u32,
-            threads_len: usize,
-            thread_count: usize,
-            markers: *mut u16,
-            markers_len: usize,
-            marker_count: usize,
-            receiver: usize,
-            sender: usize,
-        ) -> u64;
-        pub fn handover_remark(array: *const u8, array_len: usize) -> usize;
     }
 }
 

@@ -40,7 +40,7 @@ impl Call {
     }
 
     /// The plain version's answer, which changes the lists.
-    fn plain(self, setting: Setting, lists: &mut Lists) -> u64 {
+    pub fn plain(self, setting: Setting, lists: &mut Lists) -> u64 {
         let Setting { array, choices } = setting;
         let Lists { threads, thread_count, markers, marker_count } = lists;
         let (t, m) = (*thread_count, *marker_count);
@@ -53,7 +53,8 @@ impl Call {
         }
     }
 
-    fn proved(self, setting: Setting, lent: Lent) -> u64 {
+    /// The proved version's answer, which changes the lists.
+    pub fn proved(self, setting: Setting, lent: Lent) -> u64 {
         let Setting { array, choices } = setting;
         match self {
             Call::Start => handover::start(array, choices, lent.threads),

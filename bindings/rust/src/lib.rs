@@ -1,7 +1,8 @@
 //! The entries of `include/handover.h`, safe to call: a slice is what the header asks of a pointer and its length, and `&mut` keeps the
 //! written lists apart from the rest. Each function returns the number that the header describes.
 
-mod c {
+/// The functions as the header declares them.
+pub mod c {
     extern "C" {
         pub fn handover_check(array: *const u8, array_len: usize, table: *const u8, table_len: usize) -> u64;
         pub fn handover_start(
