@@ -180,8 +180,5 @@ thread-room n k l h =
     let g : k ≤ length l / (2 + n) = omega arith in
     (omega arith, le-div-iff-mul-le {k = 2 + n} {x = k} {y = length l} (omega arith) .0 g)
 
-pub room-thread : (n k : ℕ) (l : List ℕ) → k ≤ 256 → k * (2 + n) ≤ length l → k ≤ threadRoom n l
-room-thread n k l h g = let z : k ≤ length l / (2 + n) = le-div-iff-mul-le {k = 2 + n} {x = k} {y = length l} (omega arith) .1 g in omega arith
-
 pub marker-room : (k : ℕ) (l : List ℕ) → k ≤ markerRoom l → (k ≤ 4096) × (4 * k ≤ length l)
 marker-room k l h = (omega arith, omega arith)

@@ -1,5 +1,6 @@
 -- What the checker's lists say of agents, live pairs and figures.
 use Prim.Native.Nat.{ℕ, _+_, _*_, _≤_, _<_}
+use native.Mathlib.Nat.{le-of-suc-le-suc}
 use native.Mathlib.Omega.{arith}
 use mathlib.Core.Path.{_≡_, refl, sym, ap, ap₂, _∙_}
 use mathlib.Core.Logic.{⊎-elim}
@@ -13,12 +14,14 @@ use borrow.Author.Tests.{ltb-true, ltb-false, eqb-true, eqb-false, eq-eqb, ne-eq
 use Rattle.laws.specs.Search.{clear, under, every}
 use Rattle.laws.proofs.Search.{decided, any-same, every-same, clear-under}
 use Rattle.laws.proofs.Lists.{All-getD}
+use Rattle.wire.proofs.Laws.{u16-small}
 use Rattle.marks.specs.Marks.{share, inside}
 use Rattle.model.specs.Tree.{Array, inp, resource, procAt, Agent, agentAt, receives, load}
 use Rattle.model.specs.Nodes.{loadOf}
 use Rattle.model.specs.Formed.{WellFormed}
 use Rattle.model.specs.Rules.{Table, rowBits, live, shareBit, fitBoth, within, taken, loadLeft, weightGone, Verdict, onLive}
 use Rattle.model.proofs.Nodes.{load-at}
+use Rattle.model.proofs.Bounds.{load-bound}
 use Rattle.model.proofs.Verdict.{live-Live}
 use Rattle.records.specs.declared.Record.{Record}
 use Rattle.records.specs.declared.Trailer.{Trailer}
@@ -27,7 +30,7 @@ use Rattle.layout.specs.declared.Sizes.{Sizes}
 use Rattle.layout.specs.Table.{tableOf}
 use Rattle.arrays.specs.Agents.{sortOf, agentIn, Reads}
 use Rattle.arrays.proofs.Agents.{agent-node, receives-kind, node-is, agent-is, no-agent, arity-is, name-below, args-below, left-below}
-use Rattle.pairs.specs.Pairs.{Ready, livePair, bearsBoth, argumentHolds, balanceHolds}
+use Rattle.pairs.specs.Pairs.{Ready, livePair, HalfRow, HalfPair, bearsBoth, argumentHolds, balanceHolds}
 
 -- ---- records of agents
 
@@ -70,6 +73,14 @@ module _ {f : List ℕ} {t : Trailer} {s : List ℕ} {z : Sizes} {rows loads bou
 
   pub weight-is : {i : ℕ} {r : Record} → Reads f t i r → 4 ≤ r .kind → (n : ℕ) → n < z .balances → getD loads (24 * i + n) 0 ≡ (T .balance n) .weight i
   weight-is {i} h k n l = ready .weighs i n (h .below) l ∙ load-agent h k ((T .balance n) .weight)
+
+  -- a load is at most what 1024 nodes of 16-bit weights could weigh
+  pub half-row : (i : ℕ) → i < t .nodes → HalfRow loads (z .balances) i
+  half-row i h k l =
+      let small : (j : ℕ) → (T .balance k) .weight j ≤ 65535 = λ j. le-of-suc-le-suc (u16-small s (ready .bytes) _) in
+      let bound = load-bound a (wf .children) (wf .parents) ((T .balance k) .weight) i h 65535 small in
+      let nodes = wf .fewNodes in
+      (omega (arith, ready .table .laid .fewBalances, ready .manyLoads), omega (arith, ready .weighs i k h l))
 
   -- ---- rows
 
@@ -172,6 +183,13 @@ module _ {f : List ℕ} {t : Trailer} {s : List ℕ} {z : Sizes} {rows loads bou
     -- ---- figures of a live pair
 
     module _ (l : livePair a T p rp q rq ≡ true) where
+      pub half-pair : HalfPair loads (z .balances) p rp q rq
+      half-pair =
+          let k = live-sends l in
+          let left-p = left-below (ready .array) hp (omega arith) in
+          let left-q = left-below (ready .array) hq (omega arith) in
+          (half-row p (hp .below), half-row q (hq .below), half-row (rp .left) left-p, half-row (rq .left) left-q)
+
       pub argument-is : (n : ℕ) → n < rp .arity → argumentHolds rows rp rq n ≡ within T (getD (argsOf rq) n 0) (getD (argsOf rp) n 0)
       argument-is n h =
           let e = live-arities l in

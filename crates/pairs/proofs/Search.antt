@@ -3,12 +3,12 @@ use Prim.Native.Nat.{ℕ, _+_, _≤_, _<_}
 use native.Mathlib.Omega.{arith}
 use mathlib.Core.Path.{_≡_, refl, sym, _∙_}
 use mathlib.Core.Logic.{_⊎_, inl, inr}
-use mathlib.Core.Bool.{Bool, true, false, cond}
+use mathlib.Core.Bool.{Bool, true, false, cond, not}
 use mathlib.Core.List.{List}
 use lib.Dec.{eqb, ltb}
-use borrow.Author.Tests.{ltb-true, ltb-false}
+use borrow.Author.Tests.{ltb-true, ltb-false, not-true}
 use Rattle.laws.specs.Search.{clear, hit, test, under, first}
-use Rattle.laws.proofs.Search.{decided, clear-test, hit-test, clear-under, first-zero, first-pass, first-here, clear-first}
+use Rattle.laws.proofs.Search.{decided, and-split, clear-test, hit-test, clear-under, first-zero, first-pass, first-here, clear-first, every-true}
 use Rattle.model.specs.Tree.{agentAt}
 use Rattle.model.specs.Rules.{Verdict, onLive, pairs}
 use Rattle.records.specs.declared.Record.{Record}
@@ -20,8 +20,8 @@ use Rattle.pairs.specs.declared.Pair.{Pair}
 use Rattle.pairs.specs.declared.Pair.the-variants.{Nowhere, At}
 use Rattle.arrays.specs.Agents.{Reads}
 use Rattle.arrays.proofs.Agents.{small-arity, arity-is}
-use Rattle.pairs.specs.Pairs.{Ready, figuresOf, livePair, holdsAt, placeOf, atPair, pairSays}
-use Rattle.pairs.proofs.Laws.{no-receiver, pair-is}
+use Rattle.pairs.specs.Pairs.{Ready, figuresOf, livePair, holdsAt, pairHolds, placeOf, atPair, pairSays}
+use Rattle.pairs.proofs.Laws.{no-receiver, pair-is, balance-is}
 
 -- ---- the searches at a pair, at a receiver and at a figure
 
@@ -142,6 +142,19 @@ module _ {rule : ℕ} {f : List ℕ} {t : Trailer} {s : List ℕ} {z : Sizes} {r
         → AtSender rule f t s z rows loads bounds p rp count answer (q + 1)
     unfolding under
     skip-pair r e = pair-passed (r .below) (pair-at r ∙ rw e)
+
+    -- a live pair at which rule 4 holds in every balance
+    pub whole-pair : {rq : Record} → Reads f t q rq → livePair (arrayOf f t) (tableOf s z) p rp q rq ≡ true → pairHolds rule z loads p rp q rq ≡ true
+        → AtSender rule f t s z rows loads bounds p rp count answer (q + 1)
+    unfolding under
+    whole-pair {rq} r l e =
+        let both = and-split (not (eqb rule 3)) _ e in
+        let four = not-true (eqb rule 3) (both .0) in
+        let many : count ≡ z .balances = rw four at (h .many) in
+        pair-passed (r .below)
+        (pair-at r ∙ rw l (clear-first count _ (λ n k.
+        let b : n < z .balances = omega arith in
+        clear-test _ _ (rw four (sym (balance-is (h .receiver .ready) (h .reads) (h .receives) r l n b) ∙ every-true (z .balances) _ (both .1) n b)))))
 
     -- a live pair, before its figures
     pub pair : {rq : Record} → Reads f t q rq → livePair (arrayOf f t) (tableOf s z) p rp q rq ≡ true

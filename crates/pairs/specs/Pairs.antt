@@ -1,11 +1,11 @@
 -- Rules 3 and 4 as one search over receiver, sender and a last figure, and what the checker's own lists hold.
 use Prim.Native.Nat.{ℕ, suc, _+_, _*_, _<_}
 use mathlib.Core.Path.{_≡_}
-use mathlib.Core.Bool.{Bool, cond}
+use mathlib.Core.Bool.{Bool, cond, not, _&&_}
 use mathlib.Core.List.{List, [], _∷_}
 use lib.Dec.{eqb, leb, ltb}
 use lib.ListN.{length, getD}
-use Rattle.laws.specs.Search.{clear, hit, test, first}
+use Rattle.laws.specs.Search.{clear, hit, test, first, every}
 use Rattle.wire.specs.Numbers.{u32At}
 use Rattle.marks.specs.Marks.{marked, inside}
 use Rattle.model.specs.Tree.{Array, Agent}
@@ -17,7 +17,7 @@ use Rattle.arrays.specs.File.{IsRead}
 use Rattle.arrays.specs.Agents.{agentIn}
 use Rattle.layout.specs.declared.Sizes.{Sizes}
 use Rattle.layout.specs.Table.{balanceAt, rowBit, tableOf, IsTable}
-use Rattle.loads.specs.Loads.{AllLoads}
+use Rattle.loads.specs.Loads.{Half, AllLoads}
 use Rattle.pairs.specs.declared.Pair.{Pair}
 use Rattle.pairs.specs.declared.Pair.the-variants.{Nowhere, At}
 
@@ -65,6 +65,14 @@ figuresOf rule z r = cond (ltb (r .kind) 5) 0 (cond (eqb rule 3) (r .arity) (z .
 
 -- ---- the same by the checker's own lists
 
+-- the loads of node i are there in n balances, and the sum of two such fits 32 bits
+abbrev pub HalfRow : List ℕ → ℕ → ℕ → Type 0
+HalfRow loads n i = (k : ℕ) → k < n → Half loads (24 * i + k)
+
+-- so are those that rule 4 compares at the nodes p and q, of the records given
+abbrev pub HalfPair : List ℕ → ℕ → ℕ → Record → ℕ → Record → Type 0
+HalfPair loads n p rp q rq = HalfRow loads n p × HalfRow loads n q × HalfRow loads n (rp .left) × HalfRow loads n (rq .left)
+
 -- balance k bears the weights of nodes p and q
 abbrev pub bearsBoth : List ℕ → List ℕ → ℕ → ℕ → ℕ → Bool
 bearsBoth loads bounds p q k = leb (getD loads (24 * p + k) 0 + getD loads (24 * q + k) 0) (getD bounds k 0)
@@ -76,6 +84,10 @@ abbrev pub balanceHolds : List ℕ → ℕ → Record → ℕ → Record → ℕ
 balanceHolds loads p rp q rq n =
     leb (getD loads (24 * rp .left + n) 0 + getD loads (24 * rq .left + n) 0)
     (getD loads (24 * q + n) 0 + cond (eqb (rp .kind) 5) (getD loads (24 * p + n) 0) 0)
+
+-- the rule is 4, and it holds in every balance
+abbrev pub pairHolds : ℕ → Sizes → List ℕ → ℕ → Record → ℕ → Record → Bool
+pairHolds rule z loads p rp q rq = not (eqb rule 3) && every (z .balances) (λ n. balanceHolds loads p rp q rq n)
 
 -- of an array file f that says t and a table s of sizes z, both read: rows of marks, loads and bounds
 pub record Ready (f : List ℕ) (t : Trailer) (s : List ℕ) (z : Sizes) (rows loads bounds : List ℕ) : Type 0 where

@@ -11,7 +11,9 @@ ghost use Rattle.model.specs.Rules as M;
 ghost use Rattle.records.specs.Record.{arrayOf};
 ghost use Rattle.arrays.specs.Agents.{Reads};
 ghost use Rattle.layout.specs.Table.{tableOf};
-ghost use Rattle.pairs.specs.Pairs.{livePair, holdsAt, bearsBoth, argumentHolds, balanceHolds, pairSays, Ready, pairsOf, SmallFigure, figuresOf};
+ghost use Rattle.loads.specs.Loads.{Half};
+ghost use Rattle.pairs.specs.Pairs.{livePair, holdsAt, pairSays, Ready, pairsOf, SmallFigure, figuresOf};
+ghost use Rattle.pairs.specs.Pairs.{HalfRow, HalfPair, bearsBoth, argumentHolds, balanceHolds, pairHolds};
 use layout::Sizes;
 use records::Record;
 use records::Trailer;
@@ -25,6 +27,7 @@ pub enum Pair {
 // No balance has the weights of nodes p and q above its bound.
 fn fit_both(z: Sizes, loads: &[u32], bounds: &[u32], p: usize, q: usize) -> bool
     requires { ⌜ (z .balances ≤ 24) × (p < 1024) × (q < 1024) × (length (now loads) ≡ 24576) × (length (now bounds) ≡ 24) ⌝ }
+    requires { ⌜ HalfRow (now loads) (z .balances) p × HalfRow (now loads) (z .balances) q ⌝ }
     ensures { λ b. ⌜ b ≡ every (z .balances) (λ k. bearsBoth (now (loads .entry)) (now (bounds .entry)) p q k) ⌝ }
 {
     let at = 24 * p;
@@ -32,9 +35,7 @@ fn fit_both(z: Sizes, loads: &[u32], bounds: &[u32], p: usize, q: usize) -> bool
     let mut fits = true;
     let mut k: usize = 0;
     while k < z.balances {
-        fits = fits
-            & (wire::wide64(loads[at + k]) + wire::wide64(loads[to + k])
-                <= wire::wide64(bounds[k]));
+        fits = fits & (loads[at + k] + loads[to + k] <= bounds[k]);
         k += 1;
     }
     fits
@@ -98,17 +99,50 @@ fn argument_holds(rows: &[u64], rp: Record, rq: Record, n: usize) -> bool
     )
 }
 
+// What goes of the receiver's weight: an in's goes whole, a resource's stays.
+fn taken(kind: usize, weight: u32) -> u32
+    ensures { λ n. ⌜ (n ≡ cond (eqb kind 5) weight 0) × (n ≤ weight) ⌝ }
+{
+    if kind == 5 {
+        return weight;
+    }
+    0
+}
+
 // Rule 4 at balance n: the loads of both continuations are within what goes.
 fn balance_holds(loads: &[u32], p: usize, rp: Record, q: usize, rq: Record, n: usize) -> bool
-    requires { ⌜ (n < 24) × (p < 1024) × (q < 1024) × (rp .left < 1024) × (rq .left < 1024) × (length (now loads) ≡ 24576) ⌝ }
+    requires { ⌜ length (now loads) ≡ 24576 ⌝ }
+    requires { ⌜ Half (now loads) (24 * p + n) × Half (now loads) (24 * q + n) × Half (now loads) (24 * rp .left + n) × Half (now loads) (24 * rq .left + n) ⌝ }
     ensures { λ b. ⌜ b ≡ balanceHolds (now (loads .entry)) p rp q rq n ⌝ }
 {
-    let left = wire::wide64(loads[24 * rp.left + n]) + wire::wide64(loads[24 * rq.left + n]);
-    let sender = wire::wide64(loads[24 * q + n]);
-    if rp.kind == 5 {
-        return left <= sender + wire::wide64(loads[24 * p + n]);
+    let left = loads[24 * rp.left + n] + loads[24 * rq.left + n];
+    let sender = loads[24 * q + n];
+    left <= sender + taken(rp.kind, loads[24 * p + n])
+}
+
+// Rule 4 in every balance. The loop has no way out, so that several balances are compared at once.
+fn balances_hold(z: Sizes, loads: &[u32], p: usize, rp: Record, q: usize, rq: Record) -> bool
+    requires { ⌜ (length (now loads) ≡ 24576) × HalfPair (now loads) (z .balances) p rp q rq ⌝ }
+    ensures { λ b. ⌜ b ≡ every (z .balances) (λ n. balanceHolds (now (loads .entry)) p rp q rq n) ⌝ }
+{
+    let mut holds = true;
+    let mut n: usize = 0;
+    while n < z.balances {
+        holds = holds & balance_holds(loads, p, rp, q, rq, n);
+        n += 1;
     }
-    left <= sender
+    holds
+}
+
+// The live pair p, q needs no search: rule 4 holds in every balance. Rule 3 is searched argument by argument.
+fn pair_holds(rule: u8, z: Sizes, loads: &[u32], p: usize, rp: Record, q: usize, rq: Record) -> bool
+    requires { ⌜ (length (now loads) ≡ 24576) × HalfPair (now loads) (z .balances) p rp q rq ⌝ }
+    ensures { λ b. ⌜ b ≡ pairHolds rule z (now (loads .entry)) p rp q rq ⌝ }
+{
+    if rule == 3 {
+        return false;
+    }
+    balances_hold(z, loads, p, rp, q, rq)
 }
 
 // The rule holds at figure n of the live pair p, q.
@@ -163,6 +197,9 @@ pub fn first_pair(
         'sender: for q in 0..nodes {
             let rq = records::record_at(file, t.start + 16 * q);
             if !live(file, t, table, z, rows, loads, bounds, p, rp, q, rq) {
+                continue 'sender;
+            }
+            if pair_holds(rule, z, loads, p, rp, q, rq) {
                 continue 'sender;
             }
             for n in 0..count {

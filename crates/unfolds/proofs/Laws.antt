@@ -14,7 +14,7 @@ use Rattle.laws.proofs.Put.{put-nil, put-put, set-put, set-as-put}
 use Rattle.marks.specs.Marks.{marked}
 use Rattle.model.specs.Tree.{Node, nodeAt, Proc, grow, procAt, isFree}
 use Rattle.model.specs.Calculus.{Notation, Choices, Config, choicesOf, cutFrom, unfoldProc}
-use Rattle.model.specs.Numbers.{Entry}
+
 use Rattle.model.specs.Memory.{words, wordsOf, opening}
 use Rattle.model.proofs.Tree.{procAt-grow}
 use Rattle.model.proofs.Threads.{length-cut}
@@ -76,12 +76,6 @@ module _ (s : List ℕ) (t : Trailer) (choices : List ℕ) (i : ℕ) where
   pub words-unfolded : (m : ℕ) (e : List ℕ) → length (wordsOf (unfolded s t choices i m e)) ≡ length (unfolded s t choices i m e) * (2 + length e)
   unfolding unfolded
   words-unfolded m e = length-words (length e) _ (wide-unfold (words []) (choicesOf choices) m e (procAt (arrayOf s t) i))
-
-  -- the entries of the marker list do not matter
-  pub unfolded-words : (es : List Entry) (m : ℕ) (e : List ℕ)
-      → unfoldProc (words es) (choicesOf choices) m e (procAt (arrayOf s t) i) ≡ unfolded s t choices i m e
-  unfolding unfolded unfoldProc cutFrom words
-  unfolded-words es m e = refl
 
 -- ---- an environment cut to the free names
 

@@ -2,8 +2,8 @@
 use Prim.Native.Nat.{_<_}
 use mathlib.Core.Path.{_∙_}
 use borrow.Author.Tests.{eq-eqb, ne-eqb}
-use Rattle.arrays.proofs.Agents.{small-arity, left-below}
-use Rattle.pairs.proofs.Laws.{live-sends, live-arities, arg-below, row-fits, argument-is, balance-is}
+use Rattle.arrays.proofs.Agents.{small-arity}
+use Rattle.pairs.proofs.Laws.{live-sends, live-arities, arg-below, row-fits, half-pair, argument-is, balance-is}
 use native.Mathlib.Omega.{arith}
 use Rattle.pairs.proofs.figure_holds.Statement.{statement}
 use Rattle.pairs.proofs.figure_holds.Tie as tie
@@ -31,14 +31,9 @@ balance-holds-requires : tie.Need-balance-holds-requires
 balance-holds-requires c κs =
     let x = c .before .before .before .before .before .before .args in
     let pre = c .before .before .before .before .before .before .pre in
-    let sends = live-sends (pre .0) (pre .1 .0 .0) (pre .1 .0 .2) (pre .1 .0 .1) (pre .1 .1) in
     let h : x .n < x .z .balances = rw (ne-eqb _ _ (c .if1 .left)) at (pre .1 .0 .3) in
-    let few = pre .0 .array .formed .fewNodes in
-    let lp = left-below (pre .0 .array) (pre .1 .0 .0) (omega arith) in
-    let lq = left-below (pre .0 .array) (pre .1 .0 .1) (omega arith) in
-    let laid = pre .0 .table .laid in
-    let read = pre .1 .0 in
-    (omega (arith, laid .fewBalances), omega (arith, read .0 .below), omega (arith, read .1 .below), omega arith, omega arith, pre .0 .manyLoads)
+    let half = half-pair (pre .0) (pre .1 .0 .0) (pre .1 .0 .2) (pre .1 .0 .1) (pre .1 .1) in
+    (pre .0 .manyLoads, (half .0 _ h, half .1 _ h, half .2 _ h, half .3 _ h))
 
 returns-2 : tie.Need-returns-2
 returns-2 c =

@@ -3,7 +3,8 @@ use Prim.Native.Nat.{_-_}
 use mathlib.Core.Path.{sym, _∙_, subst}
 use Rattle.pairs.specs.Pairs.{SmallFigure}
 use borrow.Author.Tests.{not-true, not-false}
-use Rattle.pairs.proofs.Search.{AtReceiver, AtSender, AtFigure, begin, nothing-row, row, nowhere, skip-pair, pair, next-row, pass, next-pair, found, small-figure}
+use Rattle.pairs.proofs.Laws.{half-pair}
+use Rattle.pairs.proofs.Search.{AtReceiver, AtSender, AtFigure, begin, nothing-row, row, nowhere, skip-pair, whole-pair, pair, next-row, pass, next-pair, found, small-figure}
 use native.Mathlib.Omega.{arith}
 use borrow.Author.Needs.{needs}
 use Rattle.pairs.proofs.first_pair.Statement.{statement}
@@ -99,12 +100,35 @@ sender-again c =
     (record { below = c .before .before .before .before .sender-test .taken; is = c .before .before .record-at2 .ensures })
     (sym (c .before .live .ensures) ∙ not-true _ (c .if2 .taken))
 
+pair-holds-requires : tie.Need-pair-holds-requires Inv-loop μ-loop Inv-sender μ-sender Inv-receiver μ-receiver
+pair-holds-requires c κs =
+    let w = c .before .before .before .before .before .sender .inv in
+    let ready = w .receiver .ready in
+    let lives = sym (c .before .live .ensures) ∙ not-false _ (c .if2 .left) in
+    let l = c .before .before .before .before .sender-test .taken in
+    (ready .manyLoads, half-pair ready (w .reads) (w .receives) (record { below = l; is = c .before .before .record-at2 .ensures }) lives)
+
+add-q-2 : tie.Need-add-q-2 Inv-loop μ-loop Inv-sender μ-sender Inv-receiver μ-receiver
+add-q-2 c = search needs
+
+sender-less-2 : tie.Need-sender-less-2 Inv-loop μ-loop Inv-sender μ-sender Inv-receiver μ-receiver
+sender-less-2 c = search needs
+
+sender-again-2 :
+    tie.Need-sender-again-2 Inv-loop μ-loop Inv-sender μ-sender Inv-receiver μ-receiver
+sender-again-2 c =
+    whole-pair
+    (c .before .before .before .before .before .before .before .sender .inv)
+    (record { below = c .before .before .before .before .before .before .sender-test .taken; is = c .before .before .before .before .record-at2 .ensures })
+    (sym (c .before .before .before .live .ensures) ∙ not-false _ (c .before .before .if2 .left))
+    (sym (c .before .pair-holds .ensures) ∙ c .if3 .taken)
+
 loop-holds : tie.Need-loop-holds Inv-loop μ-loop Inv-sender μ-sender Inv-receiver μ-receiver
 loop-holds c =
     pair
-    (c .before .before .before .before .before .sender .inv)
-    (record { below = c .before .before .before .before .sender-test .taken; is = c .before .before .record-at2 .ensures })
-    (sym (c .before .live .ensures) ∙ not-false _ (c .if2 .left))
+    (c .before .before .before .before .before .before .before .sender .inv)
+    (record { below = c .before .before .before .before .before .before .sender-test .taken; is = c .before .before .before .before .record-at2 .ensures })
+    (sym (c .before .before .before .live .ensures) ∙ not-false _ (c .before .before .if2 .left))
 
 figure-holds-requires :
     tie.Need-figure-holds-requires Inv-loop μ-loop Inv-sender μ-sender Inv-receiver μ-receiver
@@ -121,17 +145,17 @@ loop-less c = search needs
 
 loop-again : tie.Need-loop-again Inv-loop μ-loop Inv-sender μ-sender Inv-receiver μ-receiver
 loop-again c =
-    pass (c .before .before .before .loop .inv) (c .before .before .loop-test .taken) (sym (c .before .figure-holds .ensures) ∙ not-false _ (c .if3 .left))
+    pass (c .before .before .before .loop .inv) (c .before .before .loop-test .taken) (sym (c .before .figure-holds .ensures) ∙ not-false _ (c .if4 .left))
 
-add-q-2 : tie.Need-add-q-2 Inv-loop μ-loop Inv-sender μ-sender Inv-receiver μ-receiver
-add-q-2 c = search needs
+add-q-3 : tie.Need-add-q-3 Inv-loop μ-loop Inv-sender μ-sender Inv-receiver μ-receiver
+add-q-3 c = search needs
 
-sender-less-2 : tie.Need-sender-less-2 Inv-loop μ-loop Inv-sender μ-sender Inv-receiver μ-receiver
-sender-less-2 c = search needs
+sender-less-3 : tie.Need-sender-less-3 Inv-loop μ-loop Inv-sender μ-sender Inv-receiver μ-receiver
+sender-less-3 c = search needs
 
-sender-again-2 :
-    tie.Need-sender-again-2 Inv-loop μ-loop Inv-sender μ-sender Inv-receiver μ-receiver
-sender-again-2 c =
+sender-again-3 :
+    tie.Need-sender-again-3 Inv-loop μ-loop Inv-sender μ-sender Inv-receiver μ-receiver
+sender-again-3 c =
     next-pair (c .before .loop .inv) (omega arith)
 
 add-p-2 : tie.Need-add-p-2 Inv-loop μ-loop Inv-sender μ-sender Inv-receiver μ-receiver
@@ -154,7 +178,7 @@ returns-2 : tie.Need-returns-2 Inv-loop μ-loop Inv-sender μ-sender Inv-receive
 returns-2 c =
     let l = c .before .before .before .loop .inv in
     let k = c .before .before .loop-test .taken in
-    (found l k (sym (c .before .figure-holds .ensures) ∙ not-true _ (c .if3 .taken)), small-figure l k)
+    (found l k (sym (c .before .figure-holds .ensures) ∙ not-true _ (c .if4 .taken)), small-figure l k)
 
 pub first-pair-spec : {M : Type 1} → statement M
 first-pair-spec =
@@ -182,14 +206,18 @@ first-pair-spec =
     add-q
     sender-less
     sender-again
+    pair-holds-requires
+    add-q-2
+    sender-less-2
+    sender-again-2
     loop-holds
     figure-holds-requires
     add-n
     loop-less
     loop-again
-    add-q-2
-    sender-less-2
-    sender-again-2
+    add-q-3
+    sender-less-3
+    sender-again-3
     add-p-2
     receiver-less-2
     receiver-again-2

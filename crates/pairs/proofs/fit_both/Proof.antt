@@ -1,4 +1,4 @@
--- The loop's flag says that the balances passed bear both weights.
+-- The loop's flag says that the balances passed bear both weights; two halves add up within 32 bits.
 use Prim.Native.Nat.{_*_, _≤_, _-_}
 use mathlib.Core.Path.{_≡_, refl, sym}
 use Rattle.laws.specs.Search.{every}
@@ -25,41 +25,36 @@ loop-holds : tie.Need-loop-holds Inv-loop μ-loop
 loop-holds c =
     (search needs, refl, refl, sym (every-zero _))
 
-add-wide64 : tie.Need-add-wide64 Inv-loop μ-loop
-add-wide64 c = search needs
-
-mul-wide64 : tie.Need-mul-wide64 Inv-loop μ-loop
-mul-wide64 c = search needs
-
-shared-slice-read-wide64 : tie.Need-shared-slice-read-wide64 Inv-loop μ-loop
-shared-slice-read-wide64 c = search needs
-
-wide64-requires : tie.Need-wide64-requires Inv-loop μ-loop
-wide64-requires c κs = search needs
-
-add-wide64-2 : tie.Need-add-wide64-2 Inv-loop μ-loop
-add-wide64-2 c = search needs
-
-mul-wide64-2 : tie.Need-mul-wide64-2 Inv-loop μ-loop
-mul-wide64-2 c = search needs
-
-shared-slice-read-wide64-2 : tie.Need-shared-slice-read-wide64-2 Inv-loop μ-loop
-shared-slice-read-wide64-2 c = search needs
-
-wide64-requires-2 : tie.Need-wide64-requires-2 Inv-loop μ-loop
-wide64-requires-2 c κs = search needs
-
 add-fits : tie.Need-add-fits Inv-loop μ-loop
 add-fits c = search needs
 
-mul-wide64-3 : tie.Need-mul-wide64-3 Inv-loop μ-loop
-mul-wide64-3 c = search needs
+mul-fits : tie.Need-mul-fits Inv-loop μ-loop
+mul-fits c = search needs
 
-shared-slice-read-wide64-3 : tie.Need-shared-slice-read-wide64-3 Inv-loop μ-loop
-shared-slice-read-wide64-3 c = search needs
+shared-slice-read-fits : tie.Need-shared-slice-read-fits Inv-loop μ-loop
+shared-slice-read-fits c = search needs
 
-wide64-requires-3 : tie.Need-wide64-requires-3 Inv-loop μ-loop
-wide64-requires-3 c κs = search needs
+add-fits-2 : tie.Need-add-fits-2 Inv-loop μ-loop
+add-fits-2 c = search needs
+
+mul-fits-2 : tie.Need-mul-fits-2 Inv-loop μ-loop
+mul-fits-2 c = search needs
+
+shared-slice-read-fits-2 : tie.Need-shared-slice-read-fits-2 Inv-loop μ-loop
+shared-slice-read-fits-2 c = search needs
+
+add-fits-3 : tie.Need-add-fits-3 Inv-loop μ-loop
+add-fits-3 c =
+    let half = c .before .before .before .before .before .pre .1 in
+    let l = c .before .before .before .before .loop in
+    let k = c .before .before .if1 .taken in
+    record { fits = rw (l .inv .1, l .inv .2) (omega (arith, half .0 (l .k) k .1, half .1 (l .k) k .1)) }
+
+mul-fits-3 : tie.Need-mul-fits-3 Inv-loop μ-loop
+mul-fits-3 c = search needs
+
+shared-slice-read-fits-3 : tie.Need-shared-slice-read-fits-3 Inv-loop μ-loop
+shared-slice-read-fits-3 c = search needs
 
 add-k : tie.Need-add-k Inv-loop μ-loop
 add-k c = search needs
@@ -69,21 +64,18 @@ loop-less c = search needs
 
 loop-again : tie.Need-loop-again Inv-loop μ-loop
 loop-again c =
-    let l = c .before .before .before .before .before .before .before .before .loop in
-    let x = c .before .before .before .before .before .before .before .before .before .before .before .args in
-    let receiver = c .before .before .before .before .wide64 .ensures .0 in
-    let sender = c .before .before .wide642 .ensures .0 in (
+    let l = c .before .before .before .before .before .loop in
+    let x = c .before .before .before .before .before .before .args in (
       search needs,
       l .inv .1,
       l .inv .2,
-      rw (l .inv .3, receiver, sender, c .wide643 .ensures .0, l .inv .1, l .inv .2)
-          (sym (every-step (bearsBoth (x .loads .now) (x .bounds .now) (x .p) (x .q)) (l .k))),
+      rw (l .inv .3, l .inv .1, l .inv .2) (sym (every-step (bearsBoth (x .loads .now) (x .bounds .now) (x .p) (x .q)) (l .k))),
     )
 
 returns : tie.Need-returns Inv-loop μ-loop
 returns c =
     let l = c .before .before .loop in
-    let e : l .k ≡ c .before .before .before .before .before .args .z .balances = omega arith in
+    let e : l .k ≡ c .before .before .before .args .z .balances = omega arith in
     rw e at (l .inv .3)
 
 pub fit-both-spec : {M : Type 1} → statement M
@@ -95,18 +87,15 @@ fit-both-spec =
     mul-at
     mul-to
     loop-holds
-    add-wide64
-    mul-wide64
-    shared-slice-read-wide64
-    wide64-requires
-    add-wide64-2
-    mul-wide64-2
-    shared-slice-read-wide64-2
-    wide64-requires-2
     add-fits
-    mul-wide64-3
-    shared-slice-read-wide64-3
-    wide64-requires-3
+    mul-fits
+    shared-slice-read-fits
+    add-fits-2
+    mul-fits-2
+    shared-slice-read-fits-2
+    add-fits-3
+    mul-fits-3
+    shared-slice-read-fits-3
     add-k
     loop-less
     loop-again

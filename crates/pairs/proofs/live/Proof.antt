@@ -1,7 +1,7 @@
 -- The tests of a live pair, one after another, by the records and the checker's lists.
 use mathlib.Core.Path.{sym, _∙_}
 use borrow.Author.Tests.{not-true, not-false}
-use Rattle.pairs.proofs.Laws.{live-else, live-arity, live-unshared, live-fits, name-row}
+use Rattle.pairs.proofs.Laws.{live-else, live-arity, live-unshared, live-fits, name-row, half-row}
 use native.Mathlib.Omega.{arith}
 use Rattle.pairs.proofs.live.Statement.{statement}
 use Rattle.pairs.proofs.live.Tie as tie
@@ -44,13 +44,10 @@ returns-3 c =
 fit-both-requires : tie.Need-fit-both-requires
 fit-both-requires c κs =
     let pre = c .before .before .before .before .before .before .before .before .before .before .before .before .before .before .pre in
-    let laid = pre .0 .table .laid in (
-      laid .fewBalances,
-      omega (arith, pre .1 .0 .below, pre .0 .array .formed .fewNodes),
-      omega (arith, pre .1 .1 .below, pre .0 .array .formed .fewNodes),
-      pre .0 .manyLoads,
-      pre .0 .manyBounds,
-    )
+    let few = pre .0 .array .formed .fewNodes in
+    let p = pre .1 .0 .below in
+    let q = pre .1 .1 .below in
+    ((pre .0 .table .laid .fewBalances, omega arith, omega arith, pre .0 .manyLoads, pre .0 .manyBounds), (half-row (pre .0) _ p, half-row (pre .0) _ q))
 
 returns-4 : tie.Need-returns-4
 returns-4 c =
