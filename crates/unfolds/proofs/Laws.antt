@@ -14,7 +14,6 @@ use Rattle.laws.proofs.Put.{put-nil, put-put, set-put, set-as-put}
 use Rattle.marks.specs.Marks.{marked}
 use Rattle.model.specs.Tree.{Node, nodeAt, Proc, grow, procAt, isFree}
 use Rattle.model.specs.Calculus.{Notation, Choices, Config, choicesOf, cutFrom, unfoldProc}
-
 use Rattle.model.specs.Memory.{words, wordsOf, opening}
 use Rattle.model.proofs.Tree.{procAt-grow}
 use Rattle.model.proofs.Threads.{length-cut}
