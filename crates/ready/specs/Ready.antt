@@ -1,5 +1,5 @@
 -- Whether two threads are ready, and the first pair that is.
-use Prim.Native.Nat.{ℕ, _+_, _*_, _<_}
+use Prim.Native.Nat.{ℕ, _+_, _*_, _<_, _≤_}
 use mathlib.Core.Path.{_≡_}
 use mathlib.Core.Bool.{true, false, cond, not, _&&_}
 use mathlib.Core.List.{List, []}
@@ -13,6 +13,7 @@ use Rattle.model.specs.Memory.{words, threadIn, try}
 use Rattle.records.specs.declared.Trailer.{Trailer}
 use Rattle.records.specs.Record.{recordOf}
 use Rattle.ready.specs.declared.Act.{Act}
+use Rattle.ready.specs.declared.Search.{Search}
 use Rattle.ready.specs.declared.Ready.{Ready}
 use Rattle.ready.specs.declared.Ready.the-variants.{Nothing, At}
 
@@ -50,10 +51,25 @@ meet p q =
     cond (leb 5 (p .kind) && eqb (q .kind) 4)
     (cond (eqb (p .arity) (q .arity)) (cond (not (eqb (p .channel) 0) && eqb (p .channel) (q .channel)) 0 27) 26) 25
 
+-- none of the first s threads is ready with receiver p
+abbrev pub NoneReady : List ℕ → Trailer → List ℕ → Act → ℕ → Type 0
+NoneReady file t l p s = (j : ℕ) → j < s → eqb (meet p (actAt file t l j)) 0 ≡ false
+
 -- below thread s none is ready with receiver p, and thread s is, where there is one
 abbrev pub FirstSender : List ℕ → Trailer → List ℕ → ℕ → Act → ℕ → Type 0
-FirstSender file t l count p s =
-    ((j : ℕ) → j < s → eqb (meet p (actAt file t l j)) 0 ≡ false) × (s < count → eqb (meet p (actAt file t l s)) 0 ≡ true)
+FirstSender file t l count p s = NoneReady file t l p s × (s < count → eqb (meet p (actAt file t l s)) 0 ≡ true)
+
+-- the first n numbers of xs are positions below i in rising order, and each of the first i threads that sends is one of them
+pub record Noted (file : List ℕ) (t : Trailer) (l : List ℕ) (i : ℕ) (xs : List ℕ) (n : ℕ) : Type 0 where
+  pub few : n ≤ i
+  pub below : (k : ℕ) → k < n → getD xs k 0 < i
+  pub rising : (j k : ℕ) → j < k → k < n → getD xs j 0 < getD xs k 0
+  pub whole : (j : ℕ) → j < i → actAt file t l j .kind ≡ 4 → (k : ℕ) × (k < n) × (getD xs k 0 ≡ j)
+
+-- the first sender, and what is noted after the search
+abbrev pub Searched : List ℕ → Trailer → List ℕ → ℕ → Act → List ℕ → Search → Type 0
+Searched file t l count p xs f =
+    FirstSender file t l count p (f .sender) × (f .seen ≤ count) × Noted file t l (f .seen) xs (f .noted)
 
 -- ---- the first pair
 
