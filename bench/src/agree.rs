@@ -2,43 +2,27 @@
 //! place and words.
 
 use crate::designs::{self, Files};
-use crate::files::word_sum;
 use crate::loops::{self, Lent, Loaded};
 use crate::versions::{agreed, Call, Case};
+use outside::files::repair;
+use outside::random::Random;
 use std::collections::BTreeSet;
 
-struct Random(u64);
-
-impl Random {
-    fn below(&mut self, limit: usize) -> usize {
-        self.0 ^= self.0 << 13;
-        self.0 ^= self.0 >> 7;
-        self.0 ^= self.0 << 17;
-        (self.0 % limit as u64) as usize
-    }
-
-    /// Small numbers are as likely as all others together.
-    fn number(&mut self) -> usize {
-        let limit = [3, 10, 300, 70_000][self.below(4)];
-        self.below(limit)
-    }
-
-    /// Changes a byte; mostly the word sum is then made right again.
-    fn change(&mut self, file: &mut Vec<u8>) {
-        let at = self.below(file.len());
-        file[at] = self.number() as u8;
-        if self.below(20) == 0 {
-            file.truncate(at);
-        } else if self.below(20) > 0 {
-            reseal(file);
-        }
-    }
+/// Small numbers are as likely as all others together.
+fn number(random: &mut Random) -> usize {
+    let limit = random.pick(&[3, 10, 300, 70_000]);
+    random.below(limit)
 }
 
-fn reseal(file: &mut [u8]) {
-    let at = file.len() - 8;
-    let sum = word_sum(&file[..at]);
-    file[at..at + 4].copy_from_slice(&sum.to_le_bytes());
+/// Changes a byte; mostly the word sum is then made right again.
+fn change(random: &mut Random, file: &mut Vec<u8>) {
+    let at = random.below(file.len());
+    file[at] = number(random) as u8;
+    if random.once_in(20) {
+        file.truncate(at);
+    } else if !random.once_in(20) {
+        repair(file);
+    }
 }
 
 fn small_files() -> Vec<Files> {
@@ -60,7 +44,7 @@ fn met(codes: &BTreeSet<u64>, wanted: impl Iterator<Item = u64>) {
 
 #[test]
 fn checks_agree() {
-    let mut random = Random(1);
+    let mut random = Random::of(1, 0, 0);
     let mut codes = BTreeSet::new();
     for round in 0..200_000 {
         let files = small_files().swap_remove(round % 6);
@@ -68,10 +52,10 @@ fn checks_agree() {
             Case { array: files.array, table: files.table, choices: vec![], lent: Lent::default(), call: Call::Check };
         for _ in 0..random.below(3) {
             if random.below(2) == 0 {
-                random.change(&mut case.array);
+                change(&mut random, &mut case.array);
                 rename(&mut case);
             } else {
-                random.change(&mut case.table);
+                change(&mut random, &mut case.table);
             }
             if case.array.len() < 8 || case.table.len() < 28 {
                 break;
@@ -89,7 +73,7 @@ fn rename(case: &mut Case) {
     if case.array.len() >= 8 && case.table.len() >= 12 {
         let (from, to) = (case.array.len() - 8, case.table.len() - 12);
         case.table[to..to + 4].copy_from_slice(&case.array[from..from + 4]);
-        reseal(&mut case.table);
+        repair(&mut case.table);
     }
 }
 
@@ -118,16 +102,16 @@ fn change_lists(random: &mut Random, loaded: &mut Loaded) {
     let last = loaded.array.len() / 16 - 3;
     let lent = &mut loaded.lent;
     match random.below(12) {
-        0 => lent.thread_count = random.number(),
-        1 => lent.marker_count = random.number(),
+        0 => lent.thread_count = number(random),
+        1 => lent.marker_count = number(random),
         2 if lent.marker_count > 0 => {
             let at = random.below(4 * lent.marker_count);
-            lent.markers[at] = random.number() as u16;
+            lent.markers[at] = number(random) as u16;
         }
         3 | 4 if lent.thread_count > 0 => {
             let used = lent.threads.len().min(3 * lent.thread_count);
             let at = random.below(used);
-            lent.threads[at] = [0, random.number() as u32, lent.threads[random.below(used)]][random.below(3)];
+            lent.threads[at] = [0, number(random) as u32, lent.threads[random.below(used)]][random.below(3)];
         }
         // In `largest` the last agent has the free names of every other, but no arguments.
         5 => lent.threads[random.below(2) * (2 + loaded.names)] = last as u32,
@@ -137,17 +121,17 @@ fn change_lists(random: &mut Random, loaded: &mut Loaded) {
 
 #[test]
 fn engines_agree() {
-    let mut random = Random(2);
+    let mut random = Random::of(2, 0, 0);
     let mut codes = BTreeSet::new();
     for round in 0..8_000 {
         let mut loaded = small_loops().swap_remove(round % 5);
         cut(&mut random, &mut loaded);
         change_lists(&mut random, &mut loaded);
         let walks = random.below(2) == 0;
-        let (receiver, sender) = (random.number() % 1000, random.below(4));
+        let (receiver, sender) = (number(&mut random) % 1000, random.below(4));
         let allowed = random.below(60) as u32;
         let call = if walks { Call::Walk { allowed } } else { Call::Step { receiver, sender } };
-        let choices = vec![random.number() as u8; 128 - usize::from(random.below(40) == 0)];
+        let choices = vec![number(&mut random) as u8; 128 - usize::from(random.below(40) == 0)];
         let case = Case { array: loaded.array, table: vec![], choices, lent: loaded.lent, call };
         let code = agreed(&case) & 0xff;
         codes.insert(if walks && code < 100 { code + 50 } else { code });

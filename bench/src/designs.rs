@@ -21,17 +21,16 @@ fn two_chains(news: usize, receivers: &[Agent], senders: &[Agent]) -> Vec<Record
 }
 
 fn ones(records: &[Record], bound: u32) -> Balance {
-    let weights = records.iter().map(|record| u16::from(record[0] >= OUT)).collect();
+    let weights = records.iter().map(|record| u16::from(record.is_agent())).collect();
     Balance { bound, weights }
 }
 
 fn files(records: &[Record], rows: &[[u64; 4]], balances: &[Balance]) -> Files {
     let array = array_file(records, rows.len());
-    let agents: Vec<usize> = (0..records.len()).filter(|i| records[*i][0] >= OUT).collect();
+    let agents: Vec<usize> = (0..records.len()).filter(|i| records[*i].is_agent()).collect();
     let count = if balances.is_empty() { 0 } else { 256 };
-    let claim = |c: usize| [agents[c % agents.len()] as u16, u16::MAX, (c % balances.len()) as u16];
-    let claims: Vec<[u16; 3]> = (0..count).map(claim).collect();
-    let table = table_file(&array, rows, balances, &claims);
+    let claim = |c: usize| [agents[c % agents.len()] as u16, u16::MAX, (c % balances.len()) as u16, 0];
+    let table = table_file(&array, rows, balances, (0..count).map(claim).collect());
     Files { array, table, nodes: records.len(), names: rows.len(), balances: balances.len() }
 }
 

@@ -69,7 +69,7 @@ pub fn largest(thread_count: usize, marker_count: usize) -> Loaded {
         _ => chain(records, &[(IN, 0, vec![k as u8]), (IN, 0, vec![k as u8 + 1])]),
     };
     let records = side_by_side(&[0], 256, build);
-    let out = records.iter().position(|record| record[0] == OUT).unwrap();
+    let out = records.iter().position(|record| record.kind == OUT).unwrap();
     let mut loaded = started(array_file(&records, 256), 256, marker_count);
     for (i, entry) in loaded.lent.markers.chunks_exact_mut(4).take(marker_count).enumerate() {
         entry.copy_from_slice(&[records.len() as u16 - 2, out as u16, i as u16, 0]);
