@@ -81,7 +81,8 @@ impl Allowance {
 // Writes the start, or refuses it by 28.
 pub fn start(file: &[u8], t: Trailer, choices: &[u8], threads: &mut [u32]) -> Fired
     requires { ⌜ IsRead (now file) t × (length (now choices) ≡ 128) ⌝ }
-    ensures { λ e. ⌜ Leaves (memory (now (threads .entry)) 0 [] 0) (startIn (arrayOf (now (file .entry)) t) (choicesOf (now (choices .entry))) (memory (now (threads .entry)) 0 [] 0)) e (now (threads .exit)) [] ⌝ }
+    ensures { λ e. ⌜ Leaves (memory (now (threads .entry)) 0 [] 0)
+        (startIn (arrayOf (now (file .entry)) t) (choicesOf (now (choices .entry))) (memory (now (threads .entry)) 0 [] 0)) e (now (threads .exit)) [] ⌝ }
 {
     let total = unfolds::count_threads(file, t, choices, 0);
     if (256 < total) | (threads.len() / (2 + t.names) < total) {

@@ -11,7 +11,8 @@ use Rattle.model.specs.Formed as F
 use Rattle.model.specs.Calculus as C
 use Rattle.model.specs.Calculus.{Notation, Choices, Config, Attempt, Answer, next, choicesOf, onAgents, attempt, start}
 use Rattle.model.specs.Numbers.{Entry}
-use Rattle.model.specs.Memory.{Memory, words, refusal22, refusal23, Result, stops, leaves, onAnswer, onPair, onStep, startIn, stepIn, walkIn, firstReady, configOf, entriesOf, store, fitted, ends, more, quiet, spent, full, try}
+use Rattle.model.specs.Memory.{Memory, Result, stops, leaves, words, configOf, entriesOf, refusal22, refusal23, startIn, stepIn, walkIn, try}
+use Rattle.model.specs.Memory.{store, fitted, onAnswer, firstReady, onPair, onStep, ends, more, quiet, spent, full}
 use Rattle.model.proofs.Lent.{formed-sound}
 use Rattle.model.proofs.Engine.{Fate, crowded, unlisted, stored, fitted-fate}
 use Rattle.arrays.specs.File.{arrayRefusal}

@@ -59,9 +59,9 @@ broken-fits f s t read z kb qb b (broken5 r₁ r₂ r₃ r₄ c h x w) = (omega 
 
 -- ---- the checker's answers
 
-judged-fits : (f s : List ℕ) (v : Verdict) → Judges f s v → Fits (judged f s)
+judged-fits : (f s : List ℕ) → Fits (judged f s)
 unfolding judged
-judged-fits f s v j = go (filesRefusal f s) refl (verdict (arrayIn f) (tableIn f s)) refl
+judged-fits f s = go (filesRefusal f s) refl (verdict (arrayIn f) (tableIn f s)) refl
   where
     go : (x : Found F.Refusal) → filesRefusal f s ≡ x → (y : M.Verdict) → verdict (arrayIn f) (tableIn f s) ≡ y
         → Fits (afterRefusals x (afterRules y (let z = sizesIn f s in held (z .nodes) (z .names) (z .balances) (z .claims))))
@@ -79,12 +79,12 @@ held-zero (rule r figures) h e = absurd (omega (arith, h .0, e))
 held-zero (refused n p) h e = absurd (omega (arith, e))
 
 pub verdict-fits : (f s : List ℕ) (v : Verdict) → Judges f s v → Fits (says v)
-verdict-fits f s v j = subst Fits (sym (j .answers)) (judged-fits f s v j)
+verdict-fits f s v j = subst Fits (sym (j .answers)) (judged-fits f s)
 
 pub checks : (f s : List ℕ) (v : Verdict) → Judges f s v → (r : ℕ) → r ≡ packed (says v) → Checks f s r
 checks f s v j r e = record {
   returns = e ∙ ap packed (j .answers);
-  fits = judged-fits f s v j;
+  fits = judged-fits f s;
   judges = (v, j);
   holds = λ z. j .holds (held-zero (says v) (verdict-fits f s v j) (sym e ∙ z));
 }

@@ -16,7 +16,9 @@ ending-code-requires : tie.Need-ending-code-requires
 ending-code-requires c κs = search needs
 
 pack-counts-requires : tie.Need-pack-counts-requires
-pack-counts-requires c κs = let h = subst (λ (y : WalkAnswer). FitsReply (saysWalk y)) (c .before .before .x .given .1) (c .before .before .before .before .pre) in (omega (arith, c .ending-code .ensures .1), h .0)
+pack-counts-requires c κs =
+    let h = subst (λ (y : WalkAnswer). FitsReply (saysWalk y)) (c .before .before .x .given .1) (c .before .before .before .before .pre) in
+    (omega (arith, c .ending-code .ensures .1), h .0)
 
 enum-known-x-2 : tie.Need-enum-known-x-2
 enum-known-x-2 c = search needs
@@ -25,7 +27,11 @@ pack-refusal-requires : tie.Need-pack-refusal-requires
 pack-refusal-requires c κs = subst (λ (y : WalkAnswer). FitsReply (saysWalk y)) (c .before .x2 .given .1) (c .before .before .before .pre)
 
 returns : tie.Need-returns
-returns c = let w = c .before .before .before .x .given .0 .0 in c .pack-counts .ensures ∙ ap (λ (e : ℕ). counted e (w .threads) (w .markers) (w .steps)) (c .before .ending-code .ensures .0) ∙ ap (λ (y : WalkAnswer). packedReply 0 (saysWalk y)) (sym (c .before .before .before .x .given .1))
+returns c =
+    let w = c .before .before .before .x .given .0 .0 in
+    let code = c .before .ending-code .ensures .0 in
+    let said = c .before .before .before .x .given .1 in
+    c .pack-counts .ensures ∙ ap (λ (e : ℕ). counted e (w .threads) (w .markers) (w .steps)) code ∙ ap (λ (y : WalkAnswer). packedReply 0 (saysWalk y)) (sym said)
 
 returns-2 : tie.Need-returns-2
 returns-2 c = c .pack-refusal .ensures ∙ ap (λ (y : WalkAnswer). packedReply 0 (saysWalk y)) (sym (c .before .before .x2 .given .1))
