@@ -37,8 +37,8 @@ def walk(allowed, answer, *threads, notes=(), via=()):
     return ("walk", (allowed,), answer, threads, notes, via)
 
 
-def stride(answer, *threads, notes=()):
-    return ("stride", (), answer, threads, notes)
+def stride(allowed, left, answer, *threads, notes=()):
+    return ("stride", (allowed, left), answer, threads, notes)
 
 
 def counts(threads, markers):
@@ -64,7 +64,7 @@ def bad(*words):
 
 def refused(text):
     """Step, walk and stride of the first two threads, all refused alike."""
-    return [step(1, 0, text), walk(5, text), stride(text)]
+    return [step(1, 0, text), walk(5, text), stride(5, 5, text)]
 
 
 def check_number(words):
@@ -118,12 +118,13 @@ class Script:
     def call(self, op, answer, threads, notes, via):
         self.calls += 1
         kind, *figures = answer.split()
-        if kind in ("refused", "quiet", "full"):
+        if kind in ("refused", "quiet", "spent", "full"):
             assert not threads and not notes, (self.name, answer)
         else:
             # The answer's counts are those of the threads and entries written beside it.
             markers = 0 if op == "start" else self.counts[1] + len(notes)
-            after = (int(figures[0]), 0) if op == "start" else tuple(map(int, figures[-2:]))
+            counts = {"start": [figures[0], 0], "stride": figures[3:5]}.get(op, figures[-2:])
+            after = tuple(map(int, counts))
             assert after[0] == len(threads) or not threads and after[0] in (0, self.counts[0]), (self.name, answer)
             assert after[1] == markers, (self.name, answer)
             for configuration in (*via, threads):
@@ -206,6 +207,21 @@ EIGHT = [rec(NEW, 1, name=0), rec(NEW, 2, name=1), rec(PAR, 3, 4), rec(OUT, 5, n
 SENDER = [rec(NEW, 1, name=0), rec(PAR, 2, 6), rec(OUT, 3, name=0), rec(NEW, 4, name=1), rec(OUT, 5, name=1, args=[0]), rec(STOP),
           rec(RESOURCE, 7, name=0), rec(STOP)]
 
+# A resource that leaves an in; the in's continuation opens a channel. Two outs feed them, one behind the other.
+INNER = [rec(NEW, 1, name=0), rec(PAR, 2, 3), rec(OUT, 4, name=0), rec(RESOURCE, 5, name=0), rec(OUT, 6, name=0), rec(IN, 7, name=0), rec(STOP),
+         rec(NEW, 8, name=1), rec(OUT, 9, name=1), rec(STOP)]
+inner = pis(INNER, 2)
+N2, N3, N4 = [2, 0, o(0), 0], [3, 0, o(0), 0], [4, 0, o(0), 0]
+
+
+def N5(marker):
+    return [5, marker, o(0), 0]
+
+
+def N8(marker):
+    return [8, marker, 0, o(1, marker)]
+
+
 # No names: par, choice and stop.
 NAMELESS = [rec(PAR, 1, 2), rec(CHOICE, 3, 4), rec(STOP), rec(STOP), rec(PAR, 5, 6), rec(STOP), rec(STOP)]
 
@@ -273,7 +289,7 @@ SCRIPTS = [
     # quiet comes before spent, spent before any step
     Script("A-quiet-first", a, [start("started 2", A3, A5), walk(0, "walked spent 0 2 0"), walk(1, "walked quiet 1 1 0", A6),
                                 walk(0, "walked quiet 0 1 0")], words=10),
-    Script("A-strides", a, [start("started 2", A3, A5), stride("made 5 3 0 1 0", A6), stride("quiet")], words=10),
+    Script("A-strides", a, [start("started 2", A3, A5), stride(100, 100, "made 5 3 0 1 0 100 99", A6), stride(100, 99, "quiet 1")], words=10),
     # B: two steps, as 01 gives them
     Script("B-two-steps", b, [start("started 2", B2, B4), step(1, 0, "stepped 2 1", B4, B5(1), notes=[FED]),
                               step(0, 1, "stepped 2 2", B4, B5(2), notes=[fed(1)]), lists("4 0 1 5 2 1 7 | 4 2 0 0 4 5 0 1 9")],
@@ -285,7 +301,7 @@ SCRIPTS = [
            words=6, numbers=12),
     # 29 ends a walk as full, and only where a step is still allowed
     Script("B-walk-3-room-for-2", b, [start("started 2", B2, B4), walk(3, "walked full 2 2 2", B4, B5(2), notes=[FED, fed(1)]),
-                                      walk(0, "walked spent 0 2 2"), walk(1, "walked full 0 2 2"), stride("full"), step(0, 1, "refused 29 0"),
+                                      walk(0, "walked spent 0 2 2"), walk(1, "walked full 0 2 2"), stride(7, 3, "full 4"), step(0, 1, "refused 29 0"),
                                       lists("4 0 1 5 2 1 | 4 2 0 0 4 5 0 1")], words=6, numbers=8),
     Script("B-walk-100", b, [start("started 2", B2, B4),
                              walk(100, "walked full 5 2 5", B4, B5(5), notes=[FED, fed(1), fed(2), fed(3), fed(4)])], words=6, numbers=21),
@@ -294,21 +310,24 @@ SCRIPTS = [
            words=6, numbers=400),
     Script("B-walk-2-room-for-1", b, [start("started 2", B2, B4), walk(2, "walked full 1 2 1", B4, B5(1), notes=[FED])], words=6, numbers=7),
     Script("B-walk-no-markers", b, [start("started 2", B2, B4), walk(100, "walked full 0 2 0"), walk(0, "walked spent 0 2 0"),
-                                    step(1, 0, "refused 29 0"), stride("full"), lists("2 0 1 4 0 1 | 9 9 9")], words=6, numbers=3),
-    Script("B-strides", b, [start("started 2", B2, B4), stride("made 4 2 1 2 1", B4, B5(1), notes=[FED]),
-                            stride("made 4 5 2 2 2", B4, B5(2), notes=[fed(1)]), stride("full")], words=6, numbers=8),
+                                    step(1, 0, "refused 29 0"), stride(1, 1, "full 0"), lists("2 0 1 4 0 1 | 9 9 9")], words=6, numbers=3),
+    Script("B-strides", b, [start("started 2", B2, B4), stride(3, 3, "made 4 2 1 2 1 3 2", B4, B5(1), notes=[FED]),
+                            stride(3, 2, "made 4 5 2 2 2 3 1", B4, B5(2), notes=[fed(1)]), stride(3, 1, "full 2"), stride(3, 0, "spent 3"),
+                            stride(0, 0, "spent 0"), stride(0, HUGE, "full 0"), stride(HUGE, 0, f"spent {HUGE}"),
+                            lists("4 0 1 5 2 1 | 4 2 0 0 4 5 0 1")], words=6, numbers=8),
     # a marker that is listed is used, also where the list is full; a third one does not fit
     Script("listed-marker", b, [step(2, 0, "stepped 3 1", B2, B4, B5(1), notes=[FED]), step(1, 0, "stepped 3 1", B4, B5(1), B5(1)),
                                 lists("4 0 1 5 1 1 5 1 1 | 4 2 0 0"), step(0, 1, "refused 29 0"), walk(3, "walked full 0 3 1")],
            words=B2 + B2 + B4, numbers=4, counts=(3, 0)),
-    Script("listed-marker-stride", b, [stride("made 4 2 1 3 1", B2, B4, B5(1), notes=[FED]), stride("made 4 2 1 3 1", B4, B5(1), B5(1)),
-                                       stride("made 4 5 2 3 2", B4, B5(1), B5(2), notes=[fed(1)]),
-                                       stride("made 4 5 2 3 2", B4, B5(2), B5(2))], words=B2 + B2 + B4, numbers=8, counts=(3, 0)),
+    Script("listed-marker-stride", b, [stride(9, 9, "made 4 2 1 3 1 9 8", B2, B4, B5(1), notes=[FED]),
+                                       stride(9, 8, "made 4 2 1 3 1 9 7", B4, B5(1), B5(1)),
+                                       stride(9, 7, "made 4 5 2 3 2 9 6", B4, B5(1), B5(2), notes=[fed(1)]),
+                                       stride(9, 6, "made 4 5 2 3 2 9 5", B4, B5(2), B5(2))], words=B2 + B2 + B4, numbers=8, counts=(3, 0)),
     Script("listed-marker-walk", b, [walk(2, "walked spent 2 3 1", B4, B5(1), B5(1), notes=[FED])], words=B2 + B2 + B4, numbers=4, counts=(3, 0)),
     # 28: more threads than fit; it comes before 29 and leaves every word
     Script("28-by-step", twice, [start("started 2", B2, B4), step(1, 0, "stepped 3 1", B4, [6, 1, o(0)], [8, 1, o(0)], notes=[FED]),
                                  step(0, 1, "refused 28 0"), step(0, 2, "refused 28 0"), walk(1, "walked full 0 3 1"),
-                                 walk(0, "walked spent 0 3 1"), stride("full"), lists("4 0 1 6 1 1 8 1 1 7 7 | 4 2 0 0 9 9 9 9")],
+                                 walk(0, "walked spent 0 3 1"), stride(HUGE, HUGE, "full 0"), lists("4 0 1 6 1 1 8 1 1 7 7 | 4 2 0 0 9 9 9 9")],
            words=11, numbers=8),
     Script("28-before-29", twice, [start("started 2", B2, B4), step(1, 0, "stepped 3 1", B4, [6, 1, o(0)], [8, 1, o(0)], notes=[FED]),
                                    step(0, 1, "refused 28 0"), lists("4 0 1 6 1 1 8 1 1 | 4 2 0 0")], words=9, numbers=4),
@@ -324,18 +343,18 @@ SCRIPTS = [
     Script("28-by-both", pis(SPLIT, 1), [start("started 2", [2, 0, o(0)], [8, 0, o(0)]), step(1, 0, "refused 28 0"), walk(1, "walked full 0 2 0")], words=11),
     Script("four-in-room-for-four", pis(SPLIT, 1), [start("started 2", [2, 0, o(0)], [8, 0, o(0)]),
                                                     step(1, 0, "stepped 4 0", [10, 0, o(0)], [12, 0, o(0)], [4, 0, o(0)], [6, 0, o(0)]),
-                                                    stride("made 10 12 0 2 0", [4, 0, o(0)], [6, 0, o(0)]),
+                                                    stride(1, 1, "made 10 12 0 2 0 1 0", [4, 0, o(0)], [6, 0, o(0)]),
                                                     lists("4 0 1 6 0 1 4 0 1 6 0 1 |")], words=12),
     # a walk is full at its first ready pair, even where a later pair's step would fit
     Script("full-at-first-pair", opens, [start("started 2", P2, P5), step(1, 0, "stepped 4 1", P5, P8(1), P10(1), P3, notes=[(5, 2, 0, 0)]),
-                                         walk(9, "walked full 0 4 1"), stride("full"), step(0, 3, "refused 29 0"), step(2, 1, "stepped 2 1", P5, P3),
+                                         walk(9, "walked full 0 4 1"), stride(2, 1, "full 1"), step(0, 3, "refused 29 0"), step(2, 1, "stepped 2 1", P5, P3),
                                          lists("5 0 1 0 3 0 1 0 10 1 0 65538 3 0 1 0 7 7 7 7 | 5 2 0 0")], words=20, numbers=4),
     # 24: at the count, past it, huge; before 25
     Script("24", b, [start("started 2", B2, B4), step(2, 0, "refused 24 0"), step(1, 2, "refused 24 0"), step(3, 0, "refused 24 0"),
                      step(1, 300, "refused 24 0"), step(HUGE, 0, "refused 24 0"), step(1, HUGE, "refused 24 0"), step(HUGE, HUGE, "refused 24 0"),
                      step(2**31, 2**31, "refused 24 0"), step(0, 2, "refused 24 0"), step(2, 1, "refused 24 0"),
                      step(1, 0, "stepped 2 1", B4, B5(1), notes=[FED])], words=30, numbers=4),
-    Script("24-no-threads", b, [step(0, 0, "refused 24 0"), walk(7, "walked quiet 0 0 0"), stride("quiet")], words=9, numbers=4),
+    Script("24-no-threads", b, [step(0, 0, "refused 24 0"), walk(7, "walked quiet 0 0 0"), stride(0, 0, "quiet 0")], words=9, numbers=4),
     # 25: each wrong kind; the same thread twice
     Script("25-same-thread", b, [start("started 2", B2, B4), step(0, 0, "refused 25 0"), step(1, 1, "refused 25 0")], words=6, numbers=4),
     Script("25-kinds", pis(TWO, 4), [start("started 4", [5, 0, o(0), o(1), 0, 0], [6, 0, o(0), o(1), 0, 0], [7, 0, o(0), 0, 0, 0], [8, 0, o(0), 0, 0, 0]),
@@ -343,14 +362,14 @@ SCRIPTS = [
                                      step(1, 3, "refused 25 0"), step(2, 2, "refused 25 0")], words=24, numbers=4),
     # 26, and 25 before 26 before 27
     Script("26", pis(ARITY, 1), [start("started 2", [2, 0, o(0)], [4, 0, o(0)]), step(1, 0, "refused 26 0"), step(0, 1, "refused 25 0"),
-                                 walk(3, "walked quiet 0 2 0"), stride("quiet")], words=6),
+                                 walk(3, "walked quiet 0 2 0"), stride(3, 0, "quiet 3")], words=6),
     Script("26-before-27", pis(BOTH, 2), [start("started 2", [3, 0, o(0), 0], [5, 0, 0, o(1)]), step(1, 0, "refused 26 0"),
                                           step(0, 1, "refused 25 0")], words=8),
     # 27: another opening; the same opening under another marker
     Script("27-opening", pis(APART, 2), [start("started 2", [3, 0, o(0), 0], [5, 0, 0, o(1)]), step(1, 0, "refused 27 0"),
-                                         walk(3, "walked quiet 0 2 0"), stride("quiet"), word(7, o(0)), step(1, 0, "stepped 0 0"),
+                                         walk(3, "walked quiet 0 2 0"), stride(3, 3, "quiet 0"), word(7, o(0)), step(1, 0, "stepped 0 0"),
                                          lists("3 0 1 0 5 0 0 1 |")], words=8),
-    Script("27-marker", b, [step(1, 0, "refused 27 0"), walk(3, "walked quiet 0 2 1"), stride("quiet"), word(2, o(0, 1)),
+    Script("27-marker", b, [step(1, 0, "refused 27 0"), walk(3, "walked quiet 0 2 1"), stride(300, 1, "quiet 299"), word(2, o(0, 1)),
                             step(1, 0, "stepped 2 1", [4, 0, o(0, 1)], [5, 1, o(0, 1)]), lists("4 0 2 5 1 2 | 4 2 0 0")],
            words=B2 + [4, 0, o(0, 1)], numbers=FED, counts=(2, 1)),
     # a thread's own marker is no part of its channel
@@ -364,9 +383,10 @@ SCRIPTS = [
                                    step(2, 3, "refused 27 0"), step(4, 1, "refused 27 0"), step(0, 1, "refused 27 0"),
                                    step(4, 3, "stepped 3 2", P5, P8(1), P10(1)), step(2, 1, "stepped 1 2", P5), walk(9, "walked quiet 0 1 2"),
                                    lists("5 0 1 0 8 1 0 65538 10 1 0 65538 8 2 0 65539 10 2 0 65539 | 5 2 0 0 5 3 0 0")], words=20, numbers=8),
-    Script("opened-twice-strides", opens, [start("started 2", P2, P5), stride("made 5 2 1 4 1", P5, P8(1), P10(1), P3, notes=[(5, 2, 0, 0)]),
-                                           stride("made 5 3 2 5 2", P5, P8(1), P10(1), P8(2), P10(2), notes=[(5, 3, 0, 0)]),
-                                           stride("made 10 8 1 3 2", P5, P8(2), P10(2)), stride("made 10 8 2 1 2", P5), stride("quiet")],
+    Script("opened-twice-strides", opens, [start("started 2", P2, P5), stride(1000, 1000, "made 5 2 1 4 1 1000 999", P5, P8(1), P10(1), P3, notes=[(5, 2, 0, 0)]),
+                                           stride(1000, 999, "made 5 3 2 5 2 1000 998", P5, P8(1), P10(1), P8(2), P10(2), notes=[(5, 3, 0, 0)]),
+                                           stride(1000, 998, "made 10 8 1 3 2 1000 997", P5, P8(2), P10(2)),
+                                           stride(1000, 997, "made 10 8 2 1 2 1000 996", P5), stride(1000, 996, "quiet 4")],
            words=20, numbers=8),
     Script("opened-twice-walk", opens, [start("started 2", P2, P5), walk(2, "walked spent 2 5 2", P5, P8(1), P10(1), P8(2), P10(2),
                                                                       notes=[(5, 2, 0, 0), (5, 3, 0, 0)]),
@@ -374,8 +394,8 @@ SCRIPTS = [
                                         lists("5 0 1 0 8 2 0 65539 10 2 0 65539 8 2 0 65539 10 2 0 65539 7 7 | 5 2 0 0 5 3 0 0")], words=22, numbers=8),
     # lowest receiver first, then lowest sender; old threads keep their order
     Script("first-pair", pis(TWO, 4), [start("started 4", [5, 0, o(0), o(1), 0, 0], [6, 0, o(0), o(1), 0, 0], [7, 0, o(0), 0, 0, 0], [8, 0, o(0), 0, 0, 0]),
-                                       stride("made 7 5 0 2 0", [6, 0, o(0), o(1), 0, 0], [8, 0, o(0), 0, 0, 0]),
-                                       stride("made 8 6 1 1 1", [8, 0, o(0), 0, 0, 0], notes=[(8, 6, 0, 0)]), stride("quiet")], words=24, numbers=4),
+                                       stride(2, 2, "made 7 5 0 2 0 2 1", [6, 0, o(0), o(1), 0, 0], [8, 0, o(0), 0, 0, 0]),
+                                       stride(2, 1, "made 8 6 1 1 1 2 0", [8, 0, o(0), 0, 0, 0], notes=[(8, 6, 0, 0)]), stride(2, 0, "quiet 2")], words=24, numbers=4),
     Script("pairs-apart", pis(CROSS, 2), [start("started 4", X5, X7, X9, X11), step(0, 2, "stepped 2 0", X7, X11),
                                           lists("7 0 0 65537 11 0 0 65537 9 0 1 0 11 0 0 65537 7 |"), step(1, 0, "stepped 0 0"),
                                           lists("7 0 0 65537 11 0 0 65537 9 0 1 0 11 0 0 65537 7 |")], words=17),
@@ -397,8 +417,19 @@ SCRIPTS = [
     Script("sender-opens-under-its-marker", pis(SENDER, 2), [step(1, 0, "stepped 2 2", [6, 0, o(0), 0], [4, 1, o(0), o(1, 1)], notes=[(6, 2, 0, 1)]),
                                                              lists("6 0 1 0 4 1 1 65538 | 6 2 0 0 6 2 0 1")],
            words=[2, 1, o(0), 0, 6, 0, o(0), 0], numbers=[6, 2, 0, 0, 9, 9, 9, 9], counts=(2, 1)),
+    # an in's continuation runs under the in's own marker, whatever its sender's, and what it opens is opened under that marker
+    Script("in-under-its-marker", inner, [start("started 2", N2, N3), step(1, 0, "stepped 3 1", N3, N5(1), N4, notes=[(3, 2, 0, 0)]),
+                                          step(1, 2, "stepped 2 1", N3, N8(1)), lists("3 0 1 0 8 1 0 65538 4 0 1 0 | 3 2 0 0")],
+           words=12, numbers=4),
+    Script("in-under-no-marker", inner, [step(0, 1, "stepped 1 1", N8(0)), lists("8 0 0 65537 4 1 1 0 | 3 2 0 0")],
+           words=N5(0) + [4, 1, o(0), 0], numbers=[3, 2, 0, 0], counts=(2, 1)),
+    # the marker told is that of the receiver's continuation: the in's own, 1 and 0, where the sender's is 0 and 1
+    Script("told-marker-of-in", inner, [stride(2, 2, "made 5 4 1 2 1 2 1", N3, N8(1)), lists("3 0 1 0 8 1 0 65538 3 0 1 0 | 3 2 0 0")],
+           words=N5(1) + N4 + N3, numbers=[3, 2, 0, 0], counts=(3, 1)),
+    Script("told-no-marker-of-in", inner, [stride(2, 1, "made 5 4 0 1 1 2 0", N8(0)), lists("8 0 0 65537 4 1 1 0 | 3 2 0 0")],
+           words=N5(0) + [4, 1, o(0), 0], numbers=[3, 2, 0, 0], counts=(2, 1)),
     # no names: two words for a thread, and no thread to be had
-    Script("one-stop", pis([rec(STOP)], 0), [start("started 0"), step(0, 0, "refused 24 0"), walk(5, "walked quiet 0 0 0"), stride("quiet"),
+    Script("one-stop", pis([rec(STOP)], 0), [start("started 0"), step(0, 0, "refused 24 0"), walk(5, "walked quiet 0 0 0"), stride(5, 7, "quiet 0"),
                                              counts(1, 0), *refused("refused 23 0"), lists("7 7 7 | 9 9 9 9")], words=3, numbers=4),
     Script("one-stop-no-lists", pis([rec(STOP)], 0), [start("started 0"), step(0, 0, "refused 24 0"), walk(0, "walked quiet 0 0 0")]),
     Script("nameless", pis(NAMELESS, 0), [start("started 0"), walk(1, "walked quiet 0 0 0"), lists("7 7 |")], words=2, choices=b"\xff" * 128),
@@ -406,7 +437,7 @@ SCRIPTS = [
     Script("many", many, [start("started 256", *many_threads(range(256))), step(0, 1, "refused 25 0"), step(3, 0, "refused 27 0"),
                           step(1, 256, "refused 24 0"), step(255, 254, "stepped 254 0", *many_threads(range(254))),
                           walk(2, "walked spent 2 250 0", *many_threads(range(4, 254)), via=[many_threads(range(2, 254))]),
-                          stride("made 516 515 0 248 0", *many_threads(range(6, 254))),
+                          stride(5, 9, "made 516 515 0 248 0 5 8", *many_threads(range(6, 254))),
                           walk(1000, "walked quiet 124 0 0", via=[many_threads(range(k, 254)) for k in range(8, 254, 2)])], words=66048),
     Script("many-word-short", many, [start("refused 28 0")], words=66047),
     # at most 256 threads fit, whatever the list's length
@@ -416,14 +447,14 @@ SCRIPTS = [
     Script("256-threads", b, [step(0, 1, "stepped 256 1", B4, *[B2] * 254, B5(1), notes=[FED]),
                               step(0, 255, "stepped 256 2", B4, *[B2] * 254, B5(2), notes=[fed(1)]), counts(257, 2), *refused("refused 23 0")],
            words=B4 + B2 * 256, numbers=8, counts=(256, 0)),
-    Script("257-threads-after", twice, [step(0, 1, "refused 28 0"), walk(1, "walked full 0 256 0"), stride("full"), counts(255, 0),
+    Script("257-threads-after", twice, [step(0, 1, "refused 28 0"), walk(1, "walked full 0 256 0"), stride(65536, 1, "full 65535"), counts(255, 0),
                                         step(0, 1, "stepped 256 1", B4, *[B2] * 253, [6, 1, o(0)], [8, 1, o(0)], notes=[FED])],
            words=B4 + B2 * 256, numbers=8, counts=(256, 0)),
     # at most 4,096 markers fit
     Script("4096-markers", b, [counts(2, 4097), *refused("refused 23 0"), counts(2, 4096), word(2, o(0, 4096)), step(1, 0, "refused 27 0"), word(1, 4096),
                                walk(1, "walked quiet 0 2 4096"), word(1, 0), word(2, o(0)), step(1, 0, "stepped 2 4096", B4, B5(1)),
-                               step(0, 1, "refused 29 0"), walk(4, "walked full 0 2 4096"), stride("full"), counts(2, 4095),
-                               stride("made 4 5 4096 2 4096", B4, B5(4096), notes=[fed(1)]), step(0, 1, "refused 29 0"), counts(2, 4095),
+                               step(0, 1, "refused 29 0"), walk(4, "walked full 0 2 4096"), stride(4, 4, "full 0"), counts(2, 4095),
+                               stride(70000, 66000, "made 4 5 4096 2 4096 70000 65999", B4, B5(4096), notes=[fed(1)]), step(0, 1, "refused 29 0"), counts(2, 4095),
                                *refused("refused 23 0")], words=B2 + B4, numbers=chain, counts=(2, 4096)),
     # counts that don't fit the lists
     Script("counts", b, [counts(3, 0), *refused("refused 23 0"), counts(2, 2), *refused("refused 23 0"), counts(HUGE, 0), *refused("refused 23 0"),

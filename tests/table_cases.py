@@ -1,14 +1,15 @@
 #!/usr/bin/env python3
-"""Writes crates/cases/{data,args,stdout} and crates/judge/{data,stdout}: pairs of array and table files and what the checker must say.
+"""Writes crates/cases/{data,args,stdout}, crates/judge/{data,stdout} and crates/sizes/{data,args,stdout}: pairs of array and table files, what
+the checker must say of them, and what the table reader must.
 
-Each answer is written here by hand from document 01: a case is an array, a table's name, the table and the words of the verdict. Run it at
-the top of the repository after a change; the gate compares what the programs print.
+Each answer is written here by hand from document 01: a case is an array, a table's name, the table and the words of the verdict, or of the
+reader's answer. Run it at the top of the repository after a change; the gate compares what the programs print.
 """
 import os
 import shutil
 import struct
 
-from array_cases import A, B, C, IN, NEW, OUT, PAR, RESOURCE, STOP, BIG, pis, rec, word_sum
+from array_cases import A, B, C, CHOICE, IN, NEW, OUT, PAR, RESOURCE, STOP, pis, rec, word_sum
 
 
 def row(*bits, width=32):
@@ -55,7 +56,22 @@ WIDE = [rec(NEW, 1, name=0), rec(NEW, 2, name=1), rec(PAR, 3, 4), rec(OUT, 5, na
         rec(IN, 6, name=0, args=range(2, 10)), rec(STOP), rec(STOP)]
 FILES["wide"] = pis(WIDE, 10)
 wide = FILES["wide"]
-FILES["largest"] = pis(BIG, 256)
+# A receiver of one name and senders of none, on one channel; a receiver of one and a sender of two.
+FILES["arities"] = pis([rec(NEW, 1, name=0), rec(PAR, 2, 3), rec(OUT, 4, name=0), rec(IN, 5, name=0, args=[1]), rec(STOP), rec(OUT, 6, name=0), rec(STOP)], 2)
+FILES["one-of-two"] = pis([rec(NEW, 1, name=0), rec(NEW, 2, name=1), rec(PAR, 3, 4), rec(OUT, 5, name=0, args=[1, 1]), rec(IN, 6, name=0, args=[2]),
+                           rec(STOP), rec(STOP)], 3)
+# A sender (3) and a receiver (5) on two channels; the receiver leaves a sender (6) on its own channel.
+FILES["apart"] = pis([rec(NEW, 1, name=0), rec(NEW, 2, name=1), rec(PAR, 3, 5), rec(OUT, 4, name=0), rec(STOP), rec(IN, 6, name=1), rec(OUT, 7, name=1),
+                      rec(STOP)], 2)
+# Like C, but the receiver (4) leaves a sender (5).
+FILES["either"] = pis([rec(NEW, 1, name=0), rec(CHOICE, 2, 4), rec(OUT, 3, name=0), rec(STOP), rec(IN, 5, name=0), rec(OUT, 6, name=0), rec(STOP)], 1)
+arities, one_of_two, apart, either = (FILES[name] for name in ("arities", "one-of-two", "apart", "either"))
+
+
+def second(w6):
+    """A's table with a second balance, of greater numbers, and a claim on it: w6 x 234 against 70,000."""
+    return pic(a, rows, [bal, balance(70000, {5: 300, 6: w6}, 8)], [claim(6, 1), claim(6, 233, 1), claim(6, 1)])
+
 
 CASES = [
     # the marked cases, from outside
@@ -86,6 +102,23 @@ CASES = [
     ("two", "two-held", pic(two, [row(0), row(1), row(1), row(1)]), "held 13 4 0 0"),
     ("wide", "wide-last-argument", pic(wide, [row(0), row(1)] + [row(0)] * 8), "rule 3 4 3 8"),
     ("wide", "wide-held", pic(wide, [row(0), row(1)] + [row(0, 1)] * 8), "held 7 10 0 0"),
+    # not live: arities differ. Live, the first would break rule 4 at 3 2 0, since 5 alone has a weight; the second rule 3 at 4 3 1.
+    ("arities", "arities-differ", pic(arities, [row(0), row()], [balance(1, {5: 1}, 7)]), "held 7 2 1 0"),
+    ("one-of-two", "one-of-two", pic(one_of_two, [row(0), row(1), row()]), "held 7 3 0 0"),
+    # not live: the channel rows share no bit. With one in common, rule 4 breaks there: 6 alone has a weight.
+    ("apart", "apart-no-bit", pic(apart, [row(0), row(1)], [balance(1, {6: 1}, 8)]), "held 8 2 1 0"),
+    ("apart", "apart-receiver-shares", pic(apart, [row(0), row(0, 1)], [balance(1, {6: 1}, 8)]), "rule 4 5 3 0"),
+    ("apart", "apart-sender-shares", pic(apart, [row(0, 1), row(1)], [balance(1, {6: 1}, 8)]), "rule 4 5 3 0"),
+    # not live by the second balance: 1 + 1 is above its bound 1, not above 2; the first balance breaks rule 4 where the pair is live
+    ("either", "either-live", pic(either, [row(0)], [balance(9, {5: 1}, 7)]), "rule 4 4 2 0"),
+    ("either", "either-second-balance", pic(either, [row(0)], [balance(9, {5: 1}, 7), balance(1, {2: 1, 4: 1}, 7)]), "held 7 1 2 0"),
+    ("either", "either-second-fits", pic(either, [row(0)], [balance(9, {5: 1}, 7), balance(2, {2: 1, 4: 1}, 7)]), "rule 4 4 2 0"),
+    # a claim is weighed in its own balance: 300 x 234 = 70,200 and 299 x 234 = 69,966; in balance 0 it is 1 x 234 against 1
+    ("A", "A-claim-on-second", second(300), "held 8 3 2 3"),
+    ("A", "A-claim-on-second-reached", second(299), "rule 5 1"),
+    # 1 x 2 against bound 2 in balance 0, against bound 1 in balance 1
+    ("A", "A-claim-on-first", pic(a, rows, [balance(2, one, 8), bal], [claim(6, 1, 0)]), "rule 5 0"),
+    ("A", "A-claim-on-lower", pic(a, rows, [balance(2, one, 8), bal], [claim(6, 1, 1)]), "held 8 3 2 1"),
     # 1 to 12 come first
     ("broken", "array-first", b"", "refused 11 3"),
     ("missing", "array-missing", table, "refused 1 0"),
@@ -139,6 +172,34 @@ CASES = [
     ("A", "A-20-first", pic(a, rows, [balance(1, {2: 1}, 8)], [claim(2, 1)]), "refused 20 0"),
 ]
 
+# What the table reader says: M, N, K and Q, also of a table that breaks a rule; or the refusal.
+SIZES = [
+    ("A", "A", table, "read 8 3 1 1"),
+    ("A", "A-four-sizes", pic(a, rows, [bal] * 2, [claim(6, 1)] * 5), "read 8 3 2 5"),
+    ("B", "B", pic(b, [row(0)], [balance(1, {2: 1, 5: 1}, 7)]), "read 7 1 1 0"),
+    ("stop", "stop", pic(FILES["stop"], []), "read 1 0 0 0"),
+    ("A", "A-most-of-both", pic(a, rows, [bal] * 24, [claim(6, 1)] * 256), "read 8 3 24 256"),
+    ("A", "A-bound-0", pic(a, rows, [balance(0, one, 8)], [claim(6, 0)] * 3), "read 8 3 1 3"),
+    ("A", "A-no-rows", pic(a, [row()] * 3, [bal] * 2), "read 8 3 2 0"),
+    # the array first
+    ("broken", "array-first", b"", "refused 11 3"),
+    ("missing", "array-missing", table, "refused 1 0"),
+    # 13 to 18
+    ("A", "missing", None, "refused 13 0"),
+    ("A", "A-byte-long", b"\0" + table, "refused 13 0"),
+    ("A", "A-array-letters", pic(a, rows, [bal], letters=b"PIS1"), "refused 14 0"),
+    ("A", "A-K-25", pic(a, rows, [bal] * 25), "refused 15 0"),
+    ("A", "A-Q-257", pic(a, rows, [bal], [claim(6, 1)] * 257), "refused 15 0"),
+    ("A", "A-claims-early", pic(a, rows, [bal], starts=(0, 96, 112)), "refused 16 0"),
+    ("A", "A-sum-off", pic(a, rows, [bal], total=1), "refused 17 0"),
+    ("A", "A-other-array", pic(b, rows, [bal], [claim(6, 1)]), "refused 18 0"),
+    # 19, 20 and 21 at a place
+    ("A", "A-row-2", pic(a, [row(0), row(1), row(1, 2)], [bal]), "refused 19 2"),
+    ("A", "A-balance-3", pic(a, rows, [bal] * 3 + [balance(1, {2: 1}, 8)]), "refused 20 3"),
+    ("B", "B-padding", pic(b, [row(0)], [balance(1, {}, 7), balance(1, {}, 7, pad=1)]), "refused 20 1"),
+    ("A", "A-claim-4", pic(a, rows, [bal], [claim(6, 1)] * 4 + [claim(6, 1, 1)]), "refused 21 4"),
+]
+
 
 def write(folder, files, args, lines):
     data = os.path.join(folder, "data")
@@ -154,17 +215,23 @@ def write(folder, files, args, lines):
                 out.write("\n".join(rows) + "\n")
 
 
-def main():
-    files, args, lines = {name + ".pis": content for name, content in FILES.items()}, [], []
-    for array, name, content, answer in CASES:
+def write_pairs(folder, cases):
+    """Arrays and tables that the cases name, a pair of arguments and a line for each."""
+    files, args, lines = {}, [], []
+    for array, name, content, answer in cases:
         assert name + ".pic" not in files, name
+        files[array + ".pis"] = FILES.get(array)
         files[name + ".pic"] = content
         args += [array + ".pis", name + ".pic"]
         lines.append(f"{name}.pic {answer}")
-    del files["largest.pis"]
-    write(os.path.join("crates", "cases"), files, args, lines)
+    write(os.path.join("crates", folder), files, args, lines)
+
+
+def main():
+    write_pairs("cases", CASES)
+    write_pairs("sizes", SIZES)
     write(os.path.join("crates", "judge"), {"array.pis": a, "table.pic": table}, None, ["held 8 3 1 1"])
-    print(len(CASES), "cases")
+    print(len(CASES), "cases,", len(SIZES), "readings")
 
 
 if __name__ == "__main__":

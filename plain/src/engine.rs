@@ -276,15 +276,43 @@ pub fn step(
     Ok(counts)
 }
 
-/// What came of one step of a walk: the step with the counts after it, or why there was none.
+/// The number of steps a walk is allowed, and how many of them are left.
 #[derive(Clone, Copy, Debug, PartialEq, Eq)]
-pub enum Stride {
-    Quiet,
-    Full,
-    Made(Made, Counts),
+pub struct Allowance {
+    pub allowed: u32,
+    pub left: u32,
 }
 
-/// Makes the step of the first ready pair and tells it.
+impl Allowance {
+    /// That of a walk that begins.
+    pub fn whole(allowed: u32) -> Allowance {
+        Allowance { allowed, left: allowed }
+    }
+
+    pub fn is_spent(self) -> bool {
+        self.left == 0
+    }
+
+    /// The allowance after one more step.
+    pub fn lessened(self) -> Allowance {
+        Allowance { left: self.left.saturating_sub(1), ..self }
+    }
+
+    /// The steps made under it, none if more are left than were allowed.
+    pub fn steps_made(self) -> u32 {
+        self.allowed.saturating_sub(self.left)
+    }
+}
+
+/// What came of one step of a walk: the ending and the steps made, or the
+/// step, the counts after it and the allowance it left.
+#[derive(Clone, Copy, Debug, PartialEq, Eq)]
+pub enum Stride {
+    Ended(Ending, u32),
+    Made(Made, Counts, Allowance),
+}
+
+/// Ends the walk, or makes the step of the first ready pair and tells it.
 pub fn stride(
     array: &[u8],
     choices: &[u8],
@@ -292,37 +320,25 @@ pub fn stride(
     thread_count: usize,
     markers: &mut [u16],
     marker_count: usize,
+    allowance: Allowance,
 ) -> Result<Stride, Refusal> {
     let array = read_array(array)?;
     check_choices(choices)?;
     if !well_formed(&array, threads, thread_count, markers, marker_count) {
         return refuse(23);
     }
+    let ended = |ending| Ok(Stride::Ended(ending, allowance.steps_made()));
     let Some((receiver, sender)) = first_ready(&array, threads, thread_count) else {
-        return Ok(Stride::Quiet);
+        return ended(Ending::Quiet);
     };
+    if allowance.is_spent() {
+        return ended(Ending::Spent);
+    }
     let result = make_step(&array, choices, threads, thread_count, markers, marker_count, receiver, sender);
-    Ok(match result {
-        Ok((counts, made)) => Stride::Made(made, counts),
-        Err(_) => Stride::Full,
-    })
-}
-
-/// The steps a walk may still make.
-#[derive(Clone, Copy)]
-struct Allowance {
-    left: u32,
-}
-
-impl Allowance {
-    fn is_spent(self) -> bool {
-        self.left == 0
-    }
-
-    /// The allowance after one more step.
-    fn lessened(self) -> Allowance {
-        Allowance { left: self.left.saturating_sub(1) }
-    }
+    let Ok((counts, made)) = result else {
+        return ended(Ending::Full);
+    };
+    Ok(Stride::Made(made, counts, allowance.lessened()))
 }
 
 /// Takes the first ready pair again and again.
@@ -357,7 +373,7 @@ pub fn walk_telling(
         return refuse(23);
     }
     let mut counts = Counts { threads: thread_count, markers: marker_count };
-    let mut allowance = Allowance { left: allowed };
+    let mut allowance = Allowance::whole(allowed);
     let mut steps = 0;
     let ending = loop {
         let Some((receiver, sender)) = first_ready(&array, threads, counts.threads) else {

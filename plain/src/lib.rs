@@ -15,7 +15,7 @@ pub mod table;
 mod tests;
 
 pub use array::{read_array, remark, Array, Kind, Node};
-pub use engine::{start, step, stride, walk, Counts, Ending, Made, Stride, Walked};
+pub use engine::{start, step, stride, walk, Allowance, Counts, Ending, Made, Stride, Walked};
 pub use rules::{check, Verdict};
 pub use table::{read_table, Balance, Claim, Table};
 

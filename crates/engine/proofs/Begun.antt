@@ -19,7 +19,7 @@ use Rattle.records.specs.declared.Trailer.{Trailer}
 use Rattle.records.specs.Record.{arrayOf}
 use Rattle.unfolds.specs.Unfold.{unfolded}
 use Rattle.unfolds.proofs.Laws.{length-unfolded, words-unfolded}
-use Rattle.steps.specs.Steps.{memory}
+use Rattle.model.specs.Memory.{memory}
 
 -- the front of a list of zeros
 take-zeros : (n k : ℕ) → n ≤ k → take {A = ℕ} n (replicate k 0) ≡ replicate n 0

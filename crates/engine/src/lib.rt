@@ -4,35 +4,71 @@
 ghost use mathlib.Core.Path.{_≡_};
 ghost use mathlib.Core.Bool.{true};
 ghost use mathlib.Core.List.{[]};
-ghost use Prim.Native.Nat.{ℕ, _+_, _*_, _<_, _≤_};
+ghost use Prim.Native.Nat.{_+_, _*_, _-_, _<_};
 ghost use lib.ListN.{length, getD};
 ghost use Rattle.model.specs.Calculus.{choicesOf};
 ghost use Rattle.model.specs.Numbers.{nobody};
-ghost use Rattle.model.specs.Memory.{threadsIn, formed, startIn, stepIn, walkIn, try};
+ghost use Rattle.model.specs.Memory.{threadsIn, formed, startIn, stepIn, walkIn, try, turnIn, nextIn};
 ghost use Rattle.records.specs.Record.{arrayOf};
 ghost use Rattle.arrays.specs.File.{IsRead};
 ghost use Rattle.frees.specs.Frees.{AllFree};
-ghost use Rattle.steps.specs.Steps.{memory, Leaves};
+ghost use Rattle.model.specs.Memory.{memory};
+ghost use Rattle.steps.specs.Steps.{Leaves};
 ghost use Rattle.ready.specs.Ready.{meeting};
-ghost use Rattle.engine.specs.Engine.{checkedStep, turnIn, strideIn, Strides, walkedOf, Walks, Turns};
+ghost use Rattle.engine.specs.Engine.{checkedStep, Strides, walkedOf, Walks, Turns};
+use model::Ending;
 use ready::Ready;
 use records::Trailer;
 use steps::Fired;
 
-// Why a walk ended.
-pub enum Ending {
-    Quiet,
-    Spent,
-    Full,
+// The steps that a walk may make in all, and how many of them are left.
+pub struct Allowance {
+    pub allowed: u32,
+    pub left: u32,
 }
 
-// One step of a walk: the receiver's and the sender's agent, the marker number of the receiver's continuation, and the counts after it.
+impl Allowance {
+    // The allowance of a walk that has made no step yet.
+    pub fn new(allowed: u32) -> Allowance
+        ensures { λ r. ⌜ r ≡ record { allowed = allowed; left = allowed } ⌝ }
+    {
+        Allowance {
+            allowed,
+            left: allowed,
+        }
+    }
+
+    // The allowance after one step more.
+    pub fn spend(self) -> Allowance
+        requires { ⌜ 0 < self .left ⌝ }
+        ensures { λ r. ⌜ r ≡ record { allowed = self .allowed; left = self .left - 1 } ⌝ }
+    {
+        Allowance {
+            allowed: self.allowed,
+            left: self.left - 1,
+        }
+    }
+
+    // The steps made so far; none where more are left than were allowed.
+    pub fn made(self) -> u32
+        ensures { λ r. ⌜ r ≡ self .allowed - self .left ⌝ }
+    {
+        if self.allowed < self.left {
+            return 0;
+        }
+        self.allowed - self.left
+    }
+}
+
+// One step of a walk: the receiver's and the sender's agent, the marker number of the receiver's continuation, and what the next step goes by:
+// the counts after it and the lessened allowance.
 pub struct Turn {
     pub receiver: usize,
     pub sender: usize,
     pub marker: u32,
     pub threads: usize,
     pub markers: usize,
+    pub allowance: Allowance,
 }
 
 // The walk's next step, or why there is none.
@@ -59,23 +95,6 @@ pub struct Walk {
 pub enum Walked {
     Refused(u8),
     Walked(Walk),
-}
-
-// The steps that a walk may still make.
-pub struct Allowance {
-    pub left: u32,
-}
-
-impl Allowance {
-    // The allowance after one step more.
-    pub fn spend(self) -> Allowance
-        requires { ⌜ 0 < self .left ⌝ }
-        ensures { λ r. ⌜ r .left + 1 ≡ self .left ⌝ }
-    {
-        Allowance {
-            left: self.left - 1,
-        }
-    }
 }
 
 // Writes the start, or refuses it by 28.
@@ -184,18 +203,21 @@ fn pair_turn(
     listed: usize,
     r: usize,
     s: usize,
+    allowance: Allowance,
 ) -> Stride
     requires { ⌜ IsRead (now file) t × (length (now choices) ≡ 128) × (length (now table) ≡ 4096) × AllFree (now table) (arrayOf (now file) t) ⌝ }
     requires { ⌜ formed (arrayOf (now file) t) (memory (now threads) count (now markers) listed) ≡ true × (r < count) × (s < count) ⌝ }
     requires { ⌜ meeting (arrayOf (now file) t) (getD (threadsIn (t .names) count (now threads)) r nobody)
         (getD (threadsIn (t .names) count (now threads)) s nobody) ≡ 0 ⌝ }
-    ensures { λ e. ⌜ Strides (arrayOf (now (file .entry)) t) (memory (now (threads .entry)) count (now (markers .entry)) listed)
+    requires { ⌜ 0 < allowance .left ⌝ }
+    ensures { λ e. ⌜ Strides (arrayOf (now (file .entry)) t) allowance (memory (now (threads .entry)) count (now (markers .entry)) listed)
         (turnIn (arrayOf (now (file .entry)) t) (memory (now (threads .entry)) count (now (markers .entry)) listed) (try (choicesOf (now (choices .entry))) r s))
         e (now (threads .exit)) (now (markers .exit)) ⌝ }
 {
     let width = 2 + t.names;
     let receiver = wire::wide(threads[r * width]);
     let sender = wire::wide(threads[s * width]);
+    let lessened = allowance.spend();
     let fired = steps::fire(
         file,
         t,
@@ -216,11 +238,12 @@ fn pair_turn(
             marker,
             threads: used,
             markers: noted,
+            allowance: lessened,
         }),
     }
 }
 
-// One turn of the walk on well-formed lists; `done` where no step is allowed any more.
+// One turn of the walk on well-formed lists.
 fn stride_formed(
     file: &[u8],
     t: Trailer,
@@ -230,19 +253,20 @@ fn stride_formed(
     count: usize,
     markers: &mut [u16],
     listed: usize,
-    done: bool,
+    allowance: Allowance,
 ) -> Stride
     requires { ⌜ IsRead (now file) t × (length (now choices) ≡ 128) × (length (now table) ≡ 4096) × AllFree (now table) (arrayOf (now file) t) ⌝ }
     requires { ⌜ formed (arrayOf (now file) t) (memory (now threads) count (now markers) listed) ≡ true ⌝ }
-    ensures { λ e. ⌜ Strides (arrayOf (now (file .entry)) t) (memory (now (threads .entry)) count (now (markers .entry)) listed)
-        (strideIn (arrayOf (now (file .entry)) t) (choicesOf (now (choices .entry))) done (memory (now (threads .entry)) count (now (markers .entry)) listed))
+    ensures { λ e. ⌜ Strides (arrayOf (now (file .entry)) t) allowance (memory (now (threads .entry)) count (now (markers .entry)) listed)
+        (nextIn (arrayOf (now (file .entry)) t) (choicesOf (now (choices .entry))) (allowance .left) (memory (now (threads .entry)) count (now (markers .entry)) listed))
         e (now (threads .exit)) (now (markers .exit)) ⌝ }
 {
     let found = ready::first_ready(file, t, threads, count);
     match found {
         Ready::Nothing => Stride::Ended(Ending::Quiet),
         Ready::At(r, s) => {
-            if done {
+            let left = allowance.left;
+            if left == 0 {
                 return Stride::Ended(Ending::Spent);
             }
             pair_turn(
@@ -256,6 +280,7 @@ fn stride_formed(
                 listed,
                 r,
                 s,
+                allowance,
             )
         }
     }
@@ -278,11 +303,10 @@ fn walk_formed(
     ensures { λ w. ⌜ walkedOf w (now (threads .exit)) (now (markers .exit))
         ≡ walkIn (arrayOf (now (file .entry)) t) (choicesOf (now (choices .entry))) allowed (memory (now (threads .entry)) count (now (markers .entry)) listed) ⌝ }
 {
-    let mut allowance = Allowance { left: allowed };
+    let mut allowance = Allowance::new(allowed);
     let mut used = count;
     let mut noted = listed;
     loop {
-        let left = allowance.left;
         let stride = stride_formed(
             file,
             t,
@@ -292,13 +316,13 @@ fn walk_formed(
             used,
             markers,
             noted,
-            left == 0,
+            allowance,
         );
         match stride {
             Stride::Ended(ending) => {
                 return Walk {
                     ending,
-                    steps: allowed - left,
+                    steps: allowance.made(),
                     threads: used,
                     markers: noted,
                 };
@@ -306,7 +330,8 @@ fn walk_formed(
             Stride::Made(turn) => {
                 used = turn.threads;
                 noted = turn.markers;
-                allowance = allowance.spend();
+                let lessened = turn.allowance;
+                allowance = lessened;
             }
         }
     }
@@ -345,7 +370,7 @@ pub fn walk_lists(
     ))
 }
 
-// One turn of a walk that has steps left: 23, an ending, or the step made.
+// One turn of the walk: 23, an ending, or the step made.
 pub fn next_turn(
     file: &[u8],
     t: Trailer,
@@ -354,9 +379,10 @@ pub fn next_turn(
     count: usize,
     markers: &mut [u16],
     listed: usize,
+    allowance: Allowance,
 ) -> Strode
     requires { ⌜ IsRead (now file) t × (length (now choices) ≡ 128) ⌝ }
-    ensures { λ e. ⌜ Turns (arrayOf (now (file .entry)) t) (choicesOf (now (choices .entry)))
+    ensures { λ e. ⌜ Turns (arrayOf (now (file .entry)) t) (choicesOf (now (choices .entry))) allowance
         (memory (now (threads .entry)) count (now (markers .entry)) listed) e (now (threads .exit)) (now (markers .exit)) ⌝ }
 {
     let mut table = [0u64; 4096];
@@ -373,6 +399,6 @@ pub fn next_turn(
         count,
         markers,
         listed,
-        false,
+        allowance,
     ))
 }

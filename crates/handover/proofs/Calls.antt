@@ -1,5 +1,6 @@
 -- The engine's entries: what the engine leaves is what the definitions leave, and what that says in the terms of the calculus.
-use Prim.Native.Nat.{ℕ}
+use Prim.Native.Nat.{ℕ, _+_, _-_, _≤_, _<_}
+use native.Mathlib.Omega.{arith}
 use mathlib.Core.Path.{_≡_, refl, sym, ap, _∙_, subst}
 use mathlib.Core.Logic.{_≢_}
 use mathlib.Core.Bool.{Bool, true, false, true≢false}
@@ -13,10 +14,11 @@ use Rattle.model.specs.Tree.{Array}
 use Rattle.model.specs.Formed as F
 use Rattle.model.specs.Formed.{WellFormed}
 use Rattle.model.specs.Calculus.{Choices, Attempt, choicesOf, start}
-use Rattle.model.specs.Memory as M
-use Rattle.model.specs.Memory.{Memory, configOf, entriesOf, words, formed, refusal22, refusal23, Result, stops, leaves, startIn, stepIn, firstReady, store, fitted, try}
+use Rattle.model.specs.declared.Ending.{Ending}
+use Rattle.model.specs.Memory.{Memory, words, formed, refusal22, refusal23, Result, stops, leaves, startIn, stepIn, store, fitted, try, Next, ended, moved, nextIn, resumed, more, walkIn, Tells}
 use Rattle.model.proofs.Lent.{Sound, formed-sound, sound-formed}
 use Rattle.model.proofs.Engine.{Fate, crowded, unlisted, stored, fitted-fate, step-follows, step-sound, start-follows, start-sound, walk-follows}
+use Rattle.model.proofs.Told.{walk-next, moved-inj, ended-moved, moved-allowed, next-tells, next-sound}
 use Rattle.records.specs.declared.Refusal.{Refusal}
 use Rattle.records.specs.declared.Trailer.{Trailer}
 use Rattle.records.specs.Record.{arrayOf}
@@ -26,31 +28,34 @@ use Rattle.arrays.specs.File.{trailerOf, arrayRefusal, readArray, answer, IsRea
 use Rattle.arrays.proofs.Laws.{answered, denied, read-passes, read-refuses, read-is}
 use Rattle.steps.specs.declared.Fired.{Fired}
 use Rattle.steps.specs.declared.Fired.the-variants.{Stopped, Made}
-use Rattle.steps.specs.Steps.{memory, Leaves}
-use Rattle.engine.specs.declared.Ending.{Ending}
-use Rattle.engine.specs.declared.Ending.the-variants.{Quiet, Spent, Full}
+use Rattle.model.specs.Memory.{memory}
+use Rattle.steps.specs.Steps.{Leaves}
+use Rattle.engine.specs.declared.Allowance.{Allowance}
 use Rattle.engine.specs.declared.Stride.{Stride}
 use Rattle.engine.specs.declared.Stride.the-variants as T
 use Rattle.engine.specs.declared.Strode.{Strode}
 use Rattle.engine.specs.declared.Strode.the-variants as S
+use Rattle.engine.specs.declared.Turn.{Turn}
 use Rattle.engine.specs.declared.Walk.{Walk}
 use Rattle.engine.specs.declared.Walked.{Walked}
 use Rattle.engine.specs.declared.Walked.the-variants as W
-use Rattle.engine.specs.Engine.{checkedStep, ended, moved, onResult, turnIn, onFound, strideIn, endingOf, TurnOf, Strides, Walks, Turns}
+use Rattle.engine.specs.Engine.{checkedStep, TurnOf, Strides, Walks, Turns}
 use Rattle.handover.specs.declared.StartAnswer.the-variants as StartA
+use Rattle.handover.specs.declared.StepAnswer.{StepAnswer}
 use Rattle.handover.specs.declared.StepAnswer.the-variants as StepA
+use Rattle.handover.specs.declared.StrideAnswer.{StrideAnswer}
 use Rattle.handover.specs.declared.StrideAnswer.the-variants as StrideA
 use Rattle.handover.specs.declared.WalkAnswer.the-variants as WalkA
 use Rattle.handover.specs.Front.{arrayIn}
 use Rattle.handover.specs.Engine as H
-use Rattle.handover.specs.Engine.{Reply, counts, turned, refused, left, unchanged, unless, resultLeft, walkLeft, startRefusal, lentRefusal}
-use Rattle.handover.specs.Engine.{startOf, stepOf, walkOf, turnLeft, foundLeft, strideOf, saysStride, strideAnswer, StartPromise, StepPromise, WalkPromise}
+use Rattle.handover.specs.Engine.{Reply, counts, turned, refused, left, unless, resultLeft, walkLeft, startRefusal, lentRefusal}
+use Rattle.handover.specs.Engine.{walked, unchanged, Followed, over, then}
+use Rattle.handover.specs.Engine.{Left, startOf, stepOf, walkOf, nextLeft, strideOf, saysStep, saysStride, saysWalk, StartPromise, StepPromise, WalkPromise, StridePromise}
+use Rattle.handover.specs.Bodies.{strideAnswer}
+use Rattle.handover.specs.Refusals.{StartNumber, StepNumber, WalkNumber}
+use Rattle.handover.proofs.Refusals.{reads, Small, start-small, lent-step, lent-walk, start-number, step-number}
 
 -- ---- refusals 1 to 12 and 22
-
-pub reads : (f : List ℕ) → arrayRefusal f ≡ clear → readArray f ≡ A.Read (trailerOf f)
-unfolding readArray
-reads f c = ap (λ (y : Found F.Refusal). answer y (trailerOf f)) c
 
 module _ (f choices : List ℕ) where
   pub admit-refused : (r : Refusal) → readArray f ≡ A.Refused r → A.Refused r ≡ answer (startRefusal f choices) (trailerOf f)
@@ -111,53 +116,135 @@ start-none a ch m n = go (fitted a m (start (words []) a ch) []) (fitted-fate a 
 
 -- ---- one turn of the walk
 
-quiet-spent : {B : Type 0} → M.quiet ≡ M.spent → B
-quiet-spent e = let z : true ≡ false = cc in absurd (true≢false z)
-
-ended-inj : {x y : M.Ending} → ended x ≡ ended y → x ≡ y
+ended-inj : {x y : Ending} → ended x ≡ ended y → x ≡ y
 ended-inj e = cc
 
-ended-moved : {B : Type 0} (x : M.Ending) (u : Attempt) (n : Memory) → ended x ≡ moved u n → B
-ended-moved x u n e = let z : true ≡ false = cc in absurd (true≢false z)
-
-moved-inj : {u v : Attempt} {m n : Memory} → moved u m ≡ moved v n → (u ≡ v) × (m ≡ n)
-moved-inj e = (cc, cc)
-
--- an ending that is not spent, as it is said
-end-says : (x : M.Ending) (e : Ending) → x ≡ endingOf e → x ≢ M.spent → saysStride (strideAnswer (T.Ended e)) ≡ H.ended x
-end-says x Quiet q n = ap H.ended (sym q)
-end-says x Spent q n = absurd (n q)
-end-says x Full q n = ap H.ended (sym q)
-
-module _ (a : Array) (ch : Choices) (m : Memory) (l ml : List ℕ) where
-  ended-left : (x : M.Ending) → x ≢ M.spent → (e : Stride) → Strides a m (ended x) e l ml → left (saysStride (strideAnswer e)) l ml ≡ unchanged (H.ended x) m
-  ended-left x n (T.Ended y) h =
-      let b = h .1 in let d = h .2 in
-      ap (λ (r : Reply). left r l ml) (end-says x y (ended-inj (h .0)) n) ∙ (λ i. left (H.ended x) (b i) (d i))
-  ended-left x n (T.Made y) h = ended-moved x (h .0) _ (h .1)
-
-  made-left : (u : Attempt) (r : Result) (e : Stride) → Strides a m (onResult u r) e l ml → left (saysStride (strideAnswer e)) l ml ≡ turnLeft a m u r
-  unfolding onResult turnLeft
-  made-left u (stops n) e h = ended-left M.full (λ z. full-spent z) e h
-    where
-      full-spent : M.full ≡ M.spent → ⊥
-      full-spent e = let z : true ≡ false = cc in true≢false z
-  made-left u (leaves n) (T.Ended y) h = ended-moved (endingOf y) u n (sym (h .0))
-  made-left u (leaves n) (T.Made y) h =
+module _ (a : Array) (w : Allowance) (m : Memory) (l ml : List ℕ) where
+  pub turn-left : (x : Next) (e : Stride) → Strides a w m x e l ml → left (saysStride (strideAnswer e (w .allowed - w .left))) l ml ≡ nextLeft a m w x
+  unfolding nextLeft
+  turn-left (ended x) (T.Ended y) h =
+      let b = h .1 in let d = h .2 in let z = ended-inj (sym (h .0)) in λ i. left (H.ended (z i) (w .allowed - w .left)) (b i) (d i)
+  turn-left (ended x) (T.Made y) h = ended-moved x (h .0) _ (h .1)
+  turn-left (moved u n) (T.Ended y) h = ended-moved y u n (sym (h .0))
+  turn-left (moved u n) (T.Made y) h =
       let p = moved-inj (h .1) in
-      let t = subst (λ (v : Attempt). TurnOf a m v (memory l (y .threads) ml (y .markers)) y) (sym (p .0)) (h .2) in
-      let w : n ≡ memory l (y .threads) ml (y .markers) = p .1 in
-      (λ i. left (turned (t .receiver i) (t .sender i) (t .marker i) (y .threads) (y .markers)) l ml)
-      ∙ ap (λ (x : Memory). turnLeft a m u (leaves x)) (sym w)
+      let t = subst (λ (v : Attempt). TurnOf a w m v (memory l (y .threads) ml (y .markers)) y) (sym (p .0)) (h .2) in
+      let v = t .allowance in
+      (λ i. left (turned (t .receiver i) (t .sender i) (t .marker i) (y .threads) (y .markers) (v i .allowed) (v i .left)) l ml)
+      ∙ ap (λ (x : Memory). nextLeft a m w (moved u x)) (sym (p .1))
 
-  pub turn-left : (e : Stride) → Strides a m (strideIn a ch false m) e l ml
-      → left (saysStride (strideAnswer e)) l ml ≡ foundLeft a m (firstReady (words (entriesOf m)) a ch (configOf a m))
-  unfolding strideIn onFound turnIn foundLeft
-  turn-left e h = go (firstReady (words (entriesOf m)) a ch (configOf a m)) h
+-- the reply of an equation
+reply-of : {r : Reply} {l ml : List ℕ} {o : Left} → left r l ml ≡ o → r ≡ o .reply
+reply-of e = ap (λ (o : Left). o .reply) e
+
+-- ---- refusals are listed
+
+-- the number that a reply refuses by
+module _ (P : ℕ → Type 0) (n p : ℕ) where
+  unless-listed : (x : Found F.Refusal) (m : Memory) (o : Left) → Small P x → (o .reply ≡ refused n p → P n) → unless x m o .reply ≡ refused n p → P n
+  unless-listed clear m o h k e = k e
+  unless-listed (hit r) m o h k e = let z : r .number ≡ n = cc in subst P z (h r refl .0)
+
+  result-listed : (m : Memory) (r : Result) → ((k : ℕ) → r ≡ stops k → P k) → resultLeft m r .reply ≡ refused n p → P n
+  result-listed m (stops k) h e = let z : k ≡ n = cc in subst P z (h k refl)
+  result-listed m (leaves k) h e = let z : true ≡ false = cc in absurd (true≢false z)
+
+module _ (f choices : List ℕ) (m : Memory) (n p : ℕ) where
+  start-listed : startOf f choices m .reply ≡ refused n p → StartNumber n
+  unfolding startOf
+  start-listed =
+      unless-listed StartNumber n p (startRefusal f choices) m _ (start-small f choices)
+      (result-listed StartNumber n p m (startIn (arrayIn f) (choicesOf choices) m) (start-number (arrayIn f) (choicesOf choices) m))
+
+  step-listed : (r s : ℕ) → stepOf f choices m r s .reply ≡ refused n p → StepNumber n
+  unfolding stepOf
+  step-listed r s =
+      unless-listed StepNumber n p (lentRefusal f choices m) m _ (lent-step f choices m)
+      (result-listed StepNumber n p m (stepIn (arrayIn f) m (try (choicesOf choices) r s)) (step-number (arrayIn f) m (try (choicesOf choices) r s)))
+
+  walk-listed : (allowed : ℕ) → walkOf f choices m allowed .reply ≡ refused n p → WalkNumber n
+  unfolding walkOf
+  walk-listed allowed =
+      unless-listed WalkNumber n p (lentRefusal f choices m) m _ (lent-walk f choices m) λ e. let z : true ≡ false = cc in absurd (true≢false z)
+
+  stride-listed : (w : Allowance) → strideOf f choices m w .reply ≡ refused n p → WalkNumber n
+  unfolding strideOf nextLeft
+  stride-listed w =
+      unless-listed WalkNumber n p (lentRefusal f choices m) m _ (lent-walk f choices m) (go (nextIn (arrayIn f) (choicesOf choices) (w .left) m))
     where
-      go : (x : Found Attempt) → Strides a m (onFound a false m x) e l ml → left (saysStride (strideAnswer e)) l ml ≡ foundLeft a m x
-      go clear h = ended-left M.quiet quiet-spent e h
-      go (hit u) h = made-left u (stepIn a m u) e h
+      go : (x : Next) → nextLeft (arrayIn f) m w x .reply ≡ refused n p → WalkNumber n
+      go (ended x) e = let z : true ≡ false = cc in absurd (true≢false z)
+      go (moved u k) e = let z : true ≡ false = cc in absurd (true≢false z)
+
+-- ---- a walk followed by strides
+
+module _ (f choices : List ℕ) where
+  abbrev A′ : Array
+  A′ = arrayIn f
+
+  abbrev C′ : Choices
+  C′ = choicesOf choices
+
+  -- an ending that is told
+  stride-over : (m : Memory) (w : Allowance) (x : Ending) (s : ℕ) → strideOf f choices m w ≡ unchanged (H.ended x s) m
+      → (lentRefusal f choices m ≡ clear) × (nextIn A′ C′ (w .left) m ≡ ended x) × (s ≡ w .allowed - w .left)
+  unfolding strideOf nextLeft
+  stride-over m w x s e = go (lentRefusal f choices m) (nextIn A′ C′ (w .left) m) (ap (λ (o : Left). o .reply) e)
+    where
+      go : (y : Found F.Refusal) (z : Next) → unless y m (nextLeft A′ m w z) .reply ≡ H.ended x s → (y ≡ clear) × (z ≡ ended x) × (s ≡ w .allowed - w .left)
+      go (hit r) z q = let b : true ≡ false = cc in absurd (true≢false b)
+      go clear (ended v) q = let b : v ≡ x = cc in let d : w .allowed - w .left ≡ s = cc in (refl, ap ended b, sym d)
+      go clear (moved u n) q = let b : true ≡ false = cc in absurd (true≢false b)
+
+  -- a step that is told
+  stride-then : (m : Memory) (w : Allowance) (r q y k j p l : ℕ) (ts ms : List ℕ) → strideOf f choices m w ≡ left (turned r q y k j p l) ts ms
+      → (lentRefusal f choices m ≡ clear) × (u : Attempt) × (nextIn A′ C′ (w .left) m ≡ moved u (memory ts k ms j)) × (p ≡ w .allowed) × (l ≡ w .left - 1)
+  unfolding strideOf nextLeft
+  stride-then m w r q y k j p l ts ms e = go (lentRefusal f choices m) (nextIn A′ C′ (w .left) m) e
+    where
+      go : (v : Found F.Refusal) (z : Next) → unless v m (nextLeft A′ m w z) ≡ left (turned r q y k j p l) ts ms
+          → (v ≡ clear) × (u : Attempt) × (z ≡ moved u (memory ts k ms j)) × (p ≡ w .allowed) × (l ≡ w .left - 1)
+      go (hit o) z e = let g = ap (λ (o : Left). o .reply) e in let b : true ≡ false = cc in absurd (true≢false b)
+      go clear (ended x) e = let g = ap (λ (o : Left). o .reply) e in let b : true ≡ false = cc in absurd (true≢false b)
+      go clear (moved u n) e =
+          let g = ap (λ (o : Left). o .reply) e in
+          let threads = ap (λ (o : Left). o .threads) e in
+          let markers = ap (λ (o : Left). o .markers) e in
+          let count : n .threadCount ≡ k = cc in
+          let noted : n .markerCount ≡ j = cc in
+          let allowed : w .allowed ≡ p = cc in
+          let less : w .left - 1 ≡ l = cc in
+          (refl, u, ap (moved u) (λ i. memory (threads i) (count i) (markers i) (noted i)), sym allowed, sym less)
+
+  -- what is told is the walk from here, and the steps told are those made since
+  followed-walk : (m : Memory) (w : Allowance) (n : ℕ) (x : Ending) (s : ℕ) (e : Memory) → w .left ≤ w .allowed → Followed f choices m w n x s e
+      → (lentRefusal f choices m ≡ clear) × (walkIn A′ C′ (w .left) m ≡ record { ending = x; steps = n; left = e }) × (s ≡ w .allowed - w .left + n)
+  unfolding resumed
+  followed-walk m w n x s e h (over m′ w′ x′ s′ q) =
+      let o = stride-over m′ w′ x′ s′ q in
+      (o .0, walk-next A′ C′ (w′ .left) m′ ∙ ap (resumed A′ C′ (w′ .left) m′) (o .1), omega (arith, o .2))
+  followed-walk m w n x s e h (then m′ w′ r q y k j p l ts ms g n′ x′ s′ e′ rest) =
+      let o = stride-then m′ w′ r q y k j p l ts ms g in
+      let some = moved-allowed A′ C′ (w′ .left) m′ (o .1) _ (o .2) in
+      let less : l ≡ w′ .left - 1 = o .4 in
+      let all : p ≡ w′ .allowed = o .3 in
+      let t = followed-walk (memory ts k ms j) record { allowed = p; left = l } n′ x′ s′ e′ (omega (arith, h, some, less, all)) rest in (
+        o .0,
+        walk-next A′ C′ (w′ .left) m′ ∙ ap (resumed A′ C′ (w′ .left) m′) (o .2)
+            ∙ ap (λ (i : ℕ). more (walkIn A′ C′ i (memory ts k ms j))) (sym less) ∙ ap more (t .1),
+        omega (arith, t .2, some, less, all, h),
+      )
+
+  stride-whole : (m : Memory) (w : Allowance) → w .left ≡ w .allowed → (n : ℕ) (x : Ending) (s : ℕ) (e : Memory) → Followed f choices m w n x s e
+      → (walkOf f choices m (w .allowed) ≡ left (walked x s (e .threadCount) (e .markerCount)) (e .threads) (e .markers)) × (n ≡ s)
+  unfolding walkOf
+  stride-whole m w full n x s e t =
+      let o = followed-walk m w n x s e (omega (arith, full)) t in
+      let same : n ≡ s = omega (arith, o .2, full) in (
+        rw (o .0) (ap walkLeft (ap (λ (k : ℕ). walkIn A′ C′ k m) (sym full) ∙ o .1)
+            ∙ ap (λ (i : ℕ). left (walked x i (e .threadCount) (e .markerCount)) (e .threads) (e .markers)) same),
+        same,
+      )
 
 -- ---- the promises, where an array was admitted
 
@@ -168,23 +255,53 @@ module _ (f choices : List ℕ) (r : Refusal) (e : startRefusal f choices ≡ hi
 
   pub start-not : (l : List ℕ) → StartPromise f choices (memory l 0 [] 0) (StartA.Refused r) l
   unfolding startOf
-  start-not l = record { leaves = rw e; starts = λ c. clear-hit _ (sym c ∙ e); formed = λ c. clear-hit _ (sym c ∙ e) }
+  start-not l =
+      let o : left (refused (r .number) (r .place)) l [] ≡ startOf f choices (memory l 0 [] 0) = rw e in
+      record {
+        leaves = o;
+        starts = λ c. clear-hit _ (sym c ∙ e);
+        formed = λ c. clear-hit _ (sym c ∙ e);
+        listed = λ n p q. start-listed f choices _ n p (sym (reply-of o) ∙ q);
+      }
 
   pub step-not : (l : List ℕ) (k : ℕ) (ml : List ℕ) (j p q : ℕ) → StepPromise f choices (memory l k ml j) p q (StepA.Refused r) l ml
   unfolding stepOf
   step-not l k ml j p q =
       let h = not-lent (memory l k ml j) in
-      record { leaves = rw h; follows = λ c. clear-hit _ (sym c ∙ h); formed = λ c. clear-hit _ (sym c ∙ h) }
+      let o : left (refused (r .number) (r .place)) l ml ≡ stepOf f choices (memory l k ml j) p q = rw h in
+      record {
+        leaves = o;
+        follows = λ c. clear-hit _ (sym c ∙ h);
+        formed = λ c. clear-hit _ (sym c ∙ h);
+        listed = λ n i z. step-listed f choices _ n i p q (sym (reply-of o) ∙ z);
+      }
 
   pub walk-not : (l : List ℕ) (k : ℕ) (ml : List ℕ) (j allowed : ℕ) → WalkPromise f choices (memory l k ml j) allowed (WalkA.Refused r) l ml
   unfolding walkOf
   walk-not l k ml j allowed =
       let h = not-lent (memory l k ml j) in
-      record { leaves = rw h; walks = λ c. clear-hit _ (sym c ∙ h); ends = λ c. clear-hit _ (sym c ∙ h); formed = λ c. clear-hit _ (sym c ∙ h) }
+      let o : left (refused (r .number) (r .place)) l ml ≡ walkOf f choices (memory l k ml j) allowed = rw h in
+      record {
+        leaves = o;
+        walks = λ c. clear-hit _ (sym c ∙ h);
+        ends = λ c. clear-hit _ (sym c ∙ h);
+        formed = λ c. clear-hit _ (sym c ∙ h);
+        listed = λ n p q. walk-listed f choices _ n p allowed (sym (reply-of o) ∙ q);
+      }
 
-  pub stride-not : (l : List ℕ) (k : ℕ) (ml : List ℕ) (j : ℕ) → left (saysStride (StrideA.Refused r)) l ml ≡ strideOf f choices (memory l k ml j)
+  pub stride-not : (l : List ℕ) (k : ℕ) (ml : List ℕ) (j : ℕ) (w : Allowance) → StridePromise f choices (memory l k ml j) w (StrideA.Refused r) l ml
   unfolding strideOf
-  stride-not l k ml j = rw (not-lent (memory l k ml j))
+  stride-not l k ml j w =
+      let h = not-lent (memory l k ml j) in
+      let o : left (refused (r .number) (r .place)) l ml ≡ strideOf f choices (memory l k ml j) w = rw h in
+      record {
+        leaves = o;
+        tells = walk-next (arrayIn f) (choicesOf choices) (w .left) (memory l k ml j);
+        whole = stride-whole f choices (memory l k ml j) w;
+        follows = λ c. clear-hit _ (sym c ∙ h);
+        formed = λ c. clear-hit _ (sym c ∙ h);
+        listed = λ n p q. stride-listed f choices _ n p w (sym (reply-of o) ∙ q);
+      }
 
 module _ (f choices : List ℕ) (t : Trailer) (ok : (startRefusal f choices ≡ clear) × (trailerOf f ≡ t) × (length choices ≡ 128) × IsRead f t) where
   abbrev a : Array
@@ -222,19 +339,24 @@ module _ (f choices : List ℕ) (t : Trailer) (ok : (startRefusal f choices ≡ 
     begun x q = ap (λ (y : Reply). left y l′ []) q ∙ result-left m₀ (startIn a ch m₀) e l′ [] h₀ ∙ rw (ok .0)
 
     pub start-stopped : (n : ℕ) → e ≡ Stopped n → StartPromise f choices m₀ (StartA.Refused record { number = n; place = 0 }) l′
-    start-stopped n q = record {
-      leaves = begun (refused n 0) (ap saysFired (sym q));
-      starts = λ c. start-follows a wf ch m₀;
-      formed = λ c k z. sound-formed a k (start-sound a wf ch m₀ k z);
-    }
+    start-stopped n q =
+        let o = begun (refused n 0) (ap saysFired (sym q)) in
+        record {
+          leaves = o;
+          starts = λ c. start-follows a wf ch m₀;
+          formed = λ c k z. sound-formed a k (start-sound a wf ch m₀ k z);
+          listed = λ i p z. start-listed f choices m₀ i p (sym (reply-of o) ∙ z);
+        }
 
     pub start-started : (k j y : ℕ) → e ≡ Made k j y → StartPromise f choices m₀ (StartA.Started k) l′
     start-started k j y q =
         let z = start-none a ch m₀ (memory l′ k [] j) (subst (λ (x : Fired). Leaves m₀ (startIn a ch m₀) x l′ []) q h₀) in
+        let o = begun (counts k 0) (ap (counts k) (sym z) ∙ ap saysFired (sym q)) in
         record {
-          leaves = begun (counts k 0) (ap (counts k) (sym z) ∙ ap saysFired (sym q));
+          leaves = o;
           starts = λ c. start-follows a wf ch m₀;
           formed = λ c n x. sound-formed a n (start-sound a wf ch m₀ n x);
+          listed = λ i p z. start-listed f choices m₀ i p (sym (reply-of o) ∙ z);
         }
 
   -- step
@@ -254,19 +376,19 @@ module _ (f choices : List ℕ) (t : Trailer) (ok : (startRefusal f choices ≡ 
         ∙ sym (step-checked a m u)
         ∙ ap (λ (y : Found F.Refusal). unless y m (resultLeft m (stepIn a m u))) (sym (lent-is m))
 
-    pub step-stopped : (n : ℕ) → e ≡ Stopped n → StepPromise f choices m r s (StepA.Refused record { number = n; place = 0 }) l′ ml′
-    step-stopped n q = record {
-      leaves = stepped (refused n 0) (ap saysFired (sym q));
+    step-by : (x : StepAnswer) → left (saysStep x) l′ ml′ ≡ stepOf f choices m r s → StepPromise f choices m r s x l′ ml′
+    step-by x o = record {
+      leaves = o;
       follows = λ c. step-follows a wf m (lent-sound m c) u;
       formed = λ c x z. sound-formed a x (step-sound a wf m (lent-sound m c) u x z);
+      listed = λ n p z. step-listed f choices m n p r s (sym (reply-of o) ∙ z);
     }
 
+    pub step-stopped : (n : ℕ) → e ≡ Stopped n → StepPromise f choices m r s (StepA.Refused record { number = n; place = 0 }) l′ ml′
+    step-stopped n q = step-by (StepA.Refused record { number = n; place = 0 }) (stepped (refused n 0) (ap saysFired (sym q)))
+
     pub step-made : (p q y : ℕ) → e ≡ Made p q y → StepPromise f choices m r s (StepA.Stepped p q) l′ ml′
-    step-made p q y z = record {
-      leaves = stepped (counts p q) (ap saysFired (sym z));
-      follows = λ c. step-follows a wf m (lent-sound m c) u;
-      formed = λ c x w. sound-formed a x (step-sound a wf m (lent-sound m c) u x w);
-    }
+    step-made p q y z = step-by (StepA.Stepped p q) (stepped (counts p q) (ap saysFired (sym z)))
 
   -- walk
   module _ (l : List ℕ) (k : ℕ) (ml : List ℕ) (j allowed : ℕ) (e : Walked) (l′ ml′ : List ℕ)
@@ -283,43 +405,73 @@ module _ (f choices : List ℕ) (t : Trailer) (ok : (startRefusal f choices ≡ 
         let z = subst (λ (x : Walked). Walks a ch allowed n x l′ ml′) q h₁ in
         let b = z .2 in
         let d = z .3 in
+        let o : left (refused i 0) l′ ml′ ≡ walkOf f choices n allowed = (λ y. left (refused (z .0 y) 0) (b y) (d y)) ∙ rw (lent-is n, z .1) in
         record {
-          leaves = (λ y. left (refused (z .0 y) 0) (b y) (d y)) ∙ rw (lent-is n, z .1);
+          leaves = o;
           walks = λ c. absurd (true≢false (sym (lent-formed n c) ∙ z .1));
           ends = λ c. absurd (true≢false (sym (lent-formed n c) ∙ z .1));
           formed = λ c. absurd (true≢false (sym (lent-formed n c) ∙ z .1));
+          listed = λ k p q. walk-listed f choices n k p allowed (sym (reply-of o) ∙ q);
         }
 
     pub walk-walked : (w : Walk) → e ≡ W.Walked w → WalkPromise f choices n allowed (WalkA.Walked w) l′ ml′
     unfolding walkOf test
     walk-walked w q =
         let z = subst (λ (x : Walked). Walks a ch allowed n x l′ ml′) q h₁ in
-        let told : Sound a n → _ = λ s. walk-follows a wf ch allowed n s in
+        let o : left (saysWalk (WalkA.Walked w)) l′ ml′ ≡ walkOf f choices n allowed = ap walkLeft (z .1) ∙ rw (lent-is n, z .0) in
         record {
-          leaves = ap walkLeft (z .1) ∙ rw (lent-is n, z .0);
+          leaves = o;
           walks = λ c. walk-follows a wf ch allowed n (lent-sound n c) .walks;
           ends = λ c. walk-follows a wf ch allowed n (lent-sound n c) .ending;
           formed = λ c. sound-formed a _ (walk-follows a wf ch allowed n (lent-sound n c) .sound);
+          listed = λ k p q. walk-listed f choices n k p allowed (sym (reply-of o) ∙ q);
         }
 
   -- stride
-  module _ (l : List ℕ) (k : ℕ) (ml : List ℕ) (j : ℕ) (e : Strode) (l′ ml′ : List ℕ) (h : Turns (arrayOf f t) ch (memory l k ml j) e l′ ml′) where
+  module _ (l : List ℕ) (k : ℕ) (ml : List ℕ) (j : ℕ) (w : Allowance) (e : Strode) (l′ ml′ : List ℕ)
+      (h : Turns (arrayOf f t) ch w (memory l k ml j) e l′ ml′) where
     abbrev o : Memory
     o = memory l k ml j
 
-    h₂ : Turns a ch o e l′ ml′
-    h₂ = subst (λ (x : Array). Turns x ch o e l′ ml′) same h
+    h₂ : Turns a ch w o e l′ ml′
+    h₂ = subst (λ (x : Array). Turns x ch w o e l′ ml′) same h
 
-    pub stride-stopped : (i : ℕ) → e ≡ S.Refused i → left (saysStride (StrideA.Refused record { number = i; place = 0 })) l′ ml′ ≡ strideOf f choices o
+    stride-by : (x : StrideAnswer) → left (saysStride x) l′ ml′ ≡ strideOf f choices o w → StridePromise f choices o w x l′ ml′
+    stride-by x q = record {
+      leaves = q;
+      tells = walk-next a ch (w .left) o;
+      whole = stride-whole f choices o w;
+      follows = λ c. next-tells a wf ch (w .left) o (lent-sound o c);
+      formed = λ c u n z. sound-formed a n (next-sound a wf ch (w .left) o (lent-sound o c) u n z);
+      listed = λ n p z. stride-listed f choices o n p w (sym (reply-of q) ∙ z);
+    }
+
+    pub stride-stopped : (i : ℕ) → e ≡ S.Refused i → StridePromise f choices o w (StrideA.Refused record { number = i; place = 0 }) l′ ml′
     unfolding strideOf test
     stride-stopped i q =
-        let z = subst (λ (x : Strode). Turns a ch o x l′ ml′) q h₂ in
+        let z = subst (λ (x : Strode). Turns a ch w o x l′ ml′) q h₂ in
         let b = z .2 in
         let d = z .3 in
-        (λ y. left (refused (z .0 y) 0) (b y) (d y)) ∙ rw (lent-is o, z .1)
+        stride-by (StrideA.Refused record { number = i; place = 0 }) ((λ y. left (refused (z .0 y) 0) (b y) (d y)) ∙ rw (lent-is o, z .1))
 
-    pub stride-strode : (x : Stride) → e ≡ S.Strode x → left (saysStride (strideAnswer x)) l′ ml′ ≡ strideOf f choices o
+    pub stride-strode : (x : Stride) → e ≡ S.Strode x → StridePromise f choices o w (strideAnswer x (w .allowed - w .left)) l′ ml′
     unfolding strideOf test
     stride-strode x q =
-        let z = subst (λ (y : Strode). Turns a ch o y l′ ml′) q h₂ in
-        turn-left a ch o l′ ml′ x (z .1) ∙ rw (lent-is o, z .0)
+        let z = subst (λ (y : Strode). Turns a ch w o y l′ ml′) q h₂ in
+        stride-by (strideAnswer x (w .allowed - w .left)) (turn-left a w o l′ ml′ (nextIn a ch (w .left) o) x (z .1) ∙ rw (lent-is o, z .0))
+
+-- ---- a step that is told leaves one step less
+
+pub stride-less : (f choices : List ℕ) (m : Memory) (w : Allowance) (x : StrideAnswer) (l ml : List ℕ) → StridePromise f choices m w x l ml
+    → (t : Turn) → x ≡ StrideA.Made t → t .allowance .left < w .left
+unfolding strideOf nextLeft
+stride-less f choices m w x l ml p t q =
+    go (lentRefusal f choices m) refl (nextIn (arrayIn f) (choicesOf choices) (w .left) m) (p .follows)
+    (ap saysStride (sym q) ∙ reply-of (p .leaves))
+  where
+    go : (x : Found F.Refusal) → lentRefusal f choices m ≡ x → (y : Next)
+        → (lentRefusal f choices m ≡ clear → Tells (arrayIn f) (choicesOf choices) (w .left) m y)
+        → saysStride (StrideA.Made t) ≡ unless x m (nextLeft (arrayIn f) m w y) .reply → t .allowance .left < w .left
+    go (hit r) c y h e = let z : true ≡ false = cc in absurd (true≢false z)
+    go clear c (ended x) h e = let z : true ≡ false = cc in absurd (true≢false z)
+    go clear c (moved u n) h e = let z : t .allowance .left ≡ w .left - 1 = cc in omega (arith, z, h c .0)

@@ -1,17 +1,32 @@
--- The marked cases over bytes, by computation.
-use mathlib.Core.Path.{_≡_, refl}
-use mathlib.Core.List.{map}
+-- The marked cases over bytes, and the other entries' rows, by computation.
+use Prim.Native.Nat.{ℕ, _≤_, _<_}
+use native.Mathlib.Omega.{arith}
+use mathlib.Core.Path.{_≡_, refl, ap, _∙_}
+use mathlib.Core.Logic.{_≢_, inl, inr, ⊎-elim}
+use mathlib.Core.Bool.{true, false, true≢false}
+use mathlib.Core.List.{List, map}
 use Rattle.laws.specs.Search as F
 use Rattle.laws.specs.Lists as L
+use Rattle.laws.specs.Lists.{All}
 use Rattle.wire.specs.Numbers as N
 use Rattle.model.specs.Tree as T
 use Rattle.model.specs.Formed as W
+use Rattle.model.specs.Calculus as S
+use Rattle.model.specs.Numbers as I
+use Rattle.model.specs.Memory as M
 use Rattle.model.specs.Rules as U
 use Rattle.records.specs.Record as R
 use Rattle.fields.specs.Fields as D
 use Rattle.layout.specs.Table as Y
-use Rattle.handover.specs.Front.{judged}
-use Rattle.handover.specs.Files.{Case, cases}
+use Rattle.arrays.specs.File.{remarkOf, readArray}
+use Rattle.handover.specs.Front.{judged, Reading, arrayRead, tableRead}
+use Rattle.model.specs.declared.Ending.{Ending}
+use Rattle.engine.specs.declared.Walk.{Walk}
+use Rattle.handover.specs.declared.WalkAnswer.{WalkAnswer}
+use Rattle.handover.specs.declared.WalkAnswer.the-variants.{Walked, Refused}
+use Rattle.handover.specs.Engine.{startOf, stepOf, walkOf, nextLeft, strideOf, Left, walked, refused, saysWalk}
+use Rattle.handover.specs.Files.{Case, cases, remark, remarkedB, tablesRead, arraysRead, Leaves, calls, toLeft, Ended, Answers, endings, Unlisted}
+use Rattle.handover.specs.Refusals.{StartNumber, WalkNumber}
 
 -- Whoever unfolds this unfolds every definition behind the answer.
 computed : Unit {0}
@@ -20,9 +35,89 @@ unfolding F.test F.andThen F.under F.first F.every F.any F.sum L.one L.all L.has
     T.nodeAt T.grow T.tree T.procAt T.asAgent T.agentAt T.receives T.load T.opens T.isAgent T.isNew
     W.children W.params W.binds W.sent W.uses W.childFits W.refusal8 W.fieldsTo W.refusal9 W.refusal10 W.binders W.refusal11 W.reaches W.inReach W.refusal12
     R.nodeOf D.refusal6 D.refusal7 Y.partsFit Y.refusal19 Y.refusal20 Y.refusal21
+    L.put T.freeBelow T.isFree S.choicesOf S.stays S.bind S.keep S.unless S.onAgents S.cutFrom S.unfoldProc S.markerOf S.receiverLeaves S.senderLeaves
+    S.stepped S.attempt S.start I.sameEntry I.position I.extend I.listAfter I.markersAfter
+    M.words M.threadIn M.threadsIn M.wordsOf M.entryIn M.entriesIn M.numbersOf M.isResource M.isOut M.wordFormed M.threadFormed M.entryFormed M.unlike M.formed
+    M.store M.fitted M.startIn M.onAnswer M.stepIn M.isNext M.firstReady M.onPair M.onStep M.walkIn
     U.within U.shareBit U.fitBoth U.live U.taken U.onLive U.pairs U.check1 U.check2 U.arguments3 U.check3 U.balances4 U.check4 U.check5 U.verdict
 computed = tt
 
 pub cases-hold : map (λ (c : Case). judged (c .array) (c .table)) cases ≡ map (λ (c : Case). c .says) cases
 unfolding computed judged
 cases-hold = refl
+
+pub remark-holds : remarkOf remarkedB ≡ remark
+unfolding computed readArray
+remark-holds = refl
+
+pub arrays-read : map (λ (c : List ℕ × Reading). arrayRead (c .0)) arraysRead ≡ map (λ (c : List ℕ × Reading). c .1) arraysRead
+unfolding computed arrayRead
+arrays-read = refl
+
+pub tables-read : map (λ (c : List ℕ × List ℕ × Reading). tableRead (c .0) (c .1)) tablesRead ≡ map (λ (c : List ℕ × List ℕ × Reading). c .2) tablesRead
+unfolding computed tableRead
+tables-read = refl
+
+pub calls-hold : All Leaves calls
+unfolding computed startOf stepOf strideOf nextLeft M.markerMade M.onResult M.turnIn M.onFound M.nextIn
+calls-hold = (refl, (refl, (refl, (refl, (refl, tt)))))
+
+-- ---- the walk's own answer
+
+walked-same : {x y : Ending} {i j k l m n : ℕ} → walked x i k m ≡ walked y j l n → (x ≡ y) × (i ≡ j) × (k ≡ l) × (m ≡ n)
+walked-same e = (cc, cc, cc, cc)
+
+refused-walked : {B : Type 0} {n p i k m : ℕ} {x : Ending} → refused n p ≡ walked x i k m → B
+refused-walked e = let z : true ≡ false = cc in absurd (true≢false z)
+
+answer-same : (w : Walk) (x : WalkAnswer) → saysWalk x ≡ saysWalk (Walked w) → x ≡ Walked w
+answer-same w (Walked v) e =
+    let s = walked-same e in
+    ap Walked (λ i. record { ending = s .0 i; steps = s .1 i; threads = s .2 i; markers = s .3 i })
+answer-same w (Refused r) e = refused-walked e
+
+-- the reply that the definition gives names the answer
+answer-is : (c : Ended) → walkOf (c .array) toLeft (c .lent) (c .allowed) .reply ≡ saysWalk (Walked (c .walk)) → Answers c
+answer-is c e x l ml p = answer-same (c .walk) x (ap (λ (o : Left). o .reply) (p .leaves) ∙ e)
+
+pub endings-hold : All Answers endings
+unfolding computed walkOf
+endings-hold = (answer-is _ refl, (answer-is _ refl, (answer-is _ refl, tt)))
+
+-- ---- numbers that are not listed
+
+past : (n m : ℕ) → n < m → m ≤ n → ⊥
+past n m h k = absurd (omega (arith, h, k))
+
+pub unlisted : Unlisted
+unlisted = record {
+  array = (λ h. past 0 1 (omega arith) (h .0), λ h. past 12 13 (omega arith) (h .1));
+  table = (λ h. past 0 1 (omega arith) (h .0), λ h. past 21 22 (omega arith) (h .1));
+  start = (
+    start-not 13 (omega arith) (omega arith) (omega arith),
+    start-not 23 (omega arith) (omega arith) (omega arith),
+    start-not 27 (omega arith) (omega arith) (omega arith),
+    start-not 29 (omega arith) (omega arith) (omega arith),
+  );
+  step = (
+    λ h. ⊎-elim (λ a. past 12 13 (omega arith) (a .1)) (λ b. past 13 22 (omega arith) (b .0)) h,
+    λ h. ⊎-elim (λ a. past 12 21 (omega arith) (a .1)) (λ b. past 21 22 (omega arith) (b .0)) h,
+    λ h. ⊎-elim (λ a. past 12 30 (omega arith) (a .1)) (λ b. past 29 30 (omega arith) (b .1)) h,
+  );
+  walk = (
+    walk-not 13 (omega arith) (omega arith) (omega arith),
+    walk-not 21 (omega arith) (omega arith) (omega arith),
+    walk-not 24 (omega arith) (omega arith) (omega arith),
+    walk-not 28 (omega arith) (omega arith) (omega arith),
+  );
+}
+  where
+    start-not : (n : ℕ) → 12 < n → n ≢ 22 → n ≢ 28 → StartNumber n → ⊥
+    start-not n h a b (inl k) = past 12 n h (k .1)
+    start-not n h a b (inr (inl k)) = a k
+    start-not n h a b (inr (inr k)) = b k
+
+    walk-not : (n : ℕ) → 12 < n → n ≢ 22 → n ≢ 23 → WalkNumber n → ⊥
+    walk-not n h a b (inl k) = past 12 n h (k .1)
+    walk-not n h a b (inr (inl k)) = a k
+    walk-not n h a b (inr (inr k)) = b k

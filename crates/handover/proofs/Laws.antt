@@ -3,14 +3,15 @@
 use Prim.Native.Nat.{ℕ, _+_}
 use mathlib.Core.Path.{_≡_, refl, sym, ap, _∙_, subst}
 use mathlib.Core.Logic.{_↔_}
-use mathlib.Core.Bool.{_&&_}
-use mathlib.Core.List.{List}
+use mathlib.Core.Bool.{_&&_, true, false, true≢false}
+use mathlib.Core.List.{List, [], _∷_}
 use lib.Dec.{eqb, ltb}
 use borrow.Author.Tests.{ltb-true}
-use Rattle.laws.specs.Search.{clear, hit}
+use Rattle.laws.specs.Search.{Found, clear, hit}
 use Rattle.laws.proofs.Search.{and-split, clear-hit, test-clear, first-clear, andThen-join, clear-andThen, hit-andThen}
 use Rattle.wire.specs.Numbers.{u16At}
 use Rattle.model.specs.Tree.{nodeAt, isAgent}
+use Rattle.model.specs.Formed as F
 use Rattle.model.specs.Rules as M
 use Rattle.model.specs.Rules.{ClaimsFit, at, verdict}
 use Rattle.model.proofs.Verdict.{held-rules, first-broken}
@@ -18,19 +19,65 @@ use Rattle.model.proofs.Safety.{demand3}
 use Rattle.records.specs.declared.Refusal.{Refusal}
 use Rattle.records.specs.declared.Trailer.{Trailer}
 use Rattle.records.specs.Record.{arrayOf}
+use Rattle.arrays.specs.declared.ArrayAnswer.{ArrayAnswer}
 use Rattle.arrays.specs.declared.ArrayAnswer.the-variants as A
-use Rattle.arrays.specs.File.{trailerOf, arrayRefusal, readArray, IsRead}
+use Rattle.arrays.specs.File.{trailerOf, arrayRefusal, answer, readArray, IsRead}
 use Rattle.arrays.proofs.Laws.{read-passes, read-refuses, read-is}
 use Rattle.layout.specs.declared.Sizes.{Sizes}
 use Rattle.layout.specs.Table.{claimAt, sizesOf, tableOf, refusal21, IsTable}
-use Rattle.tables.specs.Read.{tableRefusal, filesRefusal}
+use Rattle.tables.specs.declared.TableAnswer.{TableAnswer}
+use Rattle.tables.specs.Read as T
+use Rattle.tables.specs.Read.{tableRefusal, filesRefusal, readTable}
 use Rattle.tables.proofs.Laws.{passed-table}
 use Rattle.rules.specs.declared.Ruling.{Ruling}
 use Rattle.rules.specs.declared.Ruling.the-variants as R
 use Rattle.rules.specs.Ruling.{ruled}
 use Rattle.handover.specs.declared.Verdict.{Verdict}
 use Rattle.handover.specs.declared.Verdict.the-variants.{Held, Refused}
-use Rattle.handover.specs.Front.{Said, held, rule, refused, says, IsHeld, arrayIn, sizesIn, tableIn, afterRules, judged, Judges, verdictOf}
+use Rattle.handover.specs.Front.{Said, held, rule, refused, says, IsHeld, arrayIn, sizesIn, tableIn, afterRules, afterRefusals, judged, Judges}
+use Rattle.handover.specs.Front.{denied, saysArray, saysTable, unlessDenied, arrayRead, tableRead, ArrayPromise, TablePromise}
+use Rattle.handover.specs.Bodies.{verdictOf}
+use Rattle.handover.specs.Refusals.{ArrayNumber, TableNumber}
+use Rattle.handover.proofs.Refusals.{Small, array-small, files-small}
+
+-- ---- the readers
+
+reading-listed : (P : ℕ → Type 0) (x : Found F.Refusal) (xs : List ℕ) → Small P x → (n p : ℕ) → unlessDenied x xs ≡ denied n p → P n
+reading-listed P clear xs s n p e = let z : true ≡ false = cc in absurd (true≢false z)
+reading-listed P (hit r) xs s n p e = let z : r .number ≡ n = cc in subst P z (s r refl .0)
+
+array-says : (x : Found F.Refusal) (t : Trailer) → saysArray (answer x t) ≡ unlessDenied x (t .start ∷ t .nodes ∷ t .names ∷ t .sum ∷ [])
+array-says clear t = refl
+array-says (hit r) t = refl
+
+pub array-promise : (f : List ℕ) (x : ArrayAnswer) → x ≡ readArray f → ArrayPromise f x
+unfolding readArray arrayRead
+array-promise f x e =
+    let a : saysArray x ≡ arrayRead f = ap saysArray e ∙ array-says (arrayRefusal f) (trailerOf f) in
+    record { answers = a; listed = λ n p q. reading-listed ArrayNumber (arrayRefusal f) _ (array-small f) n p (sym a ∙ q) }
+
+table-says : (x : Found F.Refusal) (z : Sizes) → saysTable (T.answer x z) ≡ unlessDenied x (z .nodes ∷ z .names ∷ z .balances ∷ z .claims ∷ [])
+table-says clear z = refl
+table-says (hit r) z = refl
+
+pub table-promise : (f s : List ℕ) (x : TableAnswer) → x ≡ readTable f s → TablePromise f s x
+unfolding readTable tableRead
+table-promise f s x e =
+    let a : saysTable x ≡ tableRead f s = ap saysTable e ∙ table-says (filesRefusal f s) (sizesIn f s) in
+    record { answers = a; listed = λ n p q. reading-listed TableNumber (filesRefusal f s) _ (files-small f s) n p (sym a ∙ q) }
+
+-- ---- the checker
+
+-- a refusal by the checker is one of the readers'
+judged-listed : (f s : List ℕ) (n p : ℕ) → judged f s ≡ refused n p → TableNumber n
+unfolding judged
+judged-listed f s n p = go (filesRefusal f s) (files-small f s) (verdict (arrayIn f) (tableIn f s))
+  where
+    go : (x : Found F.Refusal) → Small TableNumber x → (y : M.Verdict)
+        → afterRefusals x (afterRules y (let z = sizesIn f s in held (z .nodes) (z .names) (z .balances) (z .claims))) ≡ refused n p → TableNumber n
+    go clear h clear e = let z : true ≡ false = cc in absurd (true≢false z)
+    go clear h (hit b) e = let z : true ≡ false = cc in absurd (true≢false z)
+    go (hit r) h y e = let z : r .number ≡ n = cc in subst TableNumber z (h r refl .0)
 
 -- what refusal 21 leaves of the claims: each names a balance of the table
 claims-fit : (f : List ℕ) (t : Trailer) (s : List ℕ) (z : Sizes) → IsTable f t s z → ClaimsFit (tableOf s z)
@@ -50,12 +97,15 @@ broken (refused n p) = clear
 module _ (f s : List ℕ) where
   pub refused-judges : (r : Refusal) → filesRefusal f s ≡ hit record { number = r .number; place = r .place } → Judges f s (Refused r)
   unfolding judged
-  refused-judges r e = record {
-    answers = sym (rw e);
-    exactly = λ none. clear-hit _ (sym none ∙ e);
-    breaks = λ n figures h. clear-hit _ (ap broken h);
-    holds = λ h. absurd h;
-  }
+  refused-judges r e =
+      let a : says (Refused r) ≡ judged f s = sym (rw e) in
+      record {
+        answers = a;
+        exactly = λ none. clear-hit _ (sym none ∙ e);
+        breaks = λ n figures h. clear-hit _ (ap broken h);
+        holds = λ h. absurd h;
+        listed = λ n p q. judged-listed f s n p (sym a ∙ q);
+      }
 
   module _ (clear′ : filesRefusal f s ≡ clear) (read : IsRead f (trailerOf f)) (table : IsTable f (trailerOf f) s (sizesIn f s)) where
     abbrev sized : Said
@@ -91,11 +141,13 @@ module _ (f s : List ℕ) where
     ruled-judges x e =
         let both = held-rules (arrayIn f) (tableIn f s) in
         let none : IsHeld (says (verdictOf x (sizesIn f s))) → verdict (arrayIn f) (tableIn f s) ≡ clear = λ h. sym e ∙ held-ruled x .0 h in
+        let a : says (verdictOf x (sizesIn f s)) ≡ judged f s = sym (rw (clear′, ← e) (ruled-says x)) in
         record {
-          answers = sym (rw (clear′, ← e) (ruled-says x));
+          answers = a;
           exactly = λ u. (λ h. both .0 (none h), λ h. held-ruled x .1 (e ∙ both .1 h));
           breaks = λ n figures h. first-broken (arrayIn f) (tableIn f s) (at n figures) (sym e ∙ sym (broken-ruled x) ∙ ap broken h);
           holds = λ h. demand3 (arrayIn f) (tableIn f s) (read .formed) (claims-fit f (trailerOf f) s (sizesIn f s) table) (none h);
+          listed = λ n p q. judged-listed f s n p (sym a ∙ q);
         }
 
   -- the same by what the calls answered: trailer t, sizes z, ruling x

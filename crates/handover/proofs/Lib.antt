@@ -1,3 +1,4 @@
+pub mod Refusals
 pub mod Laws
 pub mod Calls
 pub mod Cases

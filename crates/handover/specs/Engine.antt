@@ -1,6 +1,6 @@
 -- The engine's entries: what a call answers in 01's numbers, what it must answer and leave in both lists, and what that says in the
 -- terms of the calculus.
-use Prim.Native.Nat.{ℕ}
+use Prim.Native.Nat.{ℕ, suc, _-_}
 use mathlib.Core.Path.{_≡_}
 use mathlib.Core.Bool.{true}
 use mathlib.Core.List.{List, []}
@@ -10,16 +10,12 @@ use Rattle.model.specs.Tree.{Array}
 use Rattle.model.specs.Formed as F
 use Rattle.model.specs.Calculus.{calculus, Attempt, choicesOf, attempt}
 use Rattle.model.specs.Numbers.{nobody}
+use Rattle.model.specs.declared.Ending.{Ending}
 use Rattle.model.specs.Memory as M
-use Rattle.model.specs.Memory.{Memory, configOf, entriesOf, words, formed, refusal22, refusal23, Result, stops, leaves, startIn, stepIn, walkIn, firstReady, try}
-use Rattle.model.specs.Memory.{standsFor, Starts, Follows, Walks, Ends}
+use Rattle.model.specs.Memory.{Memory, memory, configOf, formed, refusal22, refusal23, Result, stops, leaves, startIn, stepIn, walkIn, try}
+use Rattle.model.specs.Memory.{markerMade, Next, moved, nextIn, resumed, standsFor, Starts, Follows, Walks, Ends, Tells}
 use Rattle.arrays.specs.File.{arrayRefusal}
-use Rattle.steps.specs.Steps.{markerMade}
-use Rattle.engine.specs.declared.Ending.{Ending}
-use Rattle.engine.specs.declared.Ending.the-variants.{Quiet, Spent, Full}
-use Rattle.engine.specs.Engine.{endingOf}
-use Rattle.engine.specs.declared.Stride as E
-use Rattle.engine.specs.declared.Stride.the-variants as T
+use Rattle.engine.specs.declared.Allowance.{Allowance}
 use Rattle.handover.specs.declared.StartAnswer.{StartAnswer}
 use Rattle.handover.specs.declared.StartAnswer.the-variants as Start
 use Rattle.handover.specs.declared.StepAnswer.{StepAnswer}
@@ -29,17 +25,18 @@ use Rattle.handover.specs.declared.StrideAnswer.the-variants as Stride
 use Rattle.handover.specs.declared.WalkAnswer.{WalkAnswer}
 use Rattle.handover.specs.declared.WalkAnswer.the-variants as Walk
 use Rattle.handover.specs.Front.{arrayIn}
+use Rattle.handover.specs.Refusals.{StartNumber, StepNumber, WalkNumber}
 
 -- ---- answers in 01's numbers
 
 -- the counts of threads and markers after a start or a step; the receiver's agent, the sender's agent, the marker number of the
--- receiver's continuation and the counts after a step of the walk; an ending without a step; how a walk ended, the steps made and the
--- counts; or a refusal's number and place
+-- receiver's continuation, the counts after a step of the walk, the steps allowed and those left; an ending without a step, and the steps
+-- made before it; how a walk ended, the steps made and the counts; or a refusal's number and place
 pub data Reply : Type 0 where
   counts : ℕ → ℕ → Reply
-  turned : ℕ → ℕ → ℕ → ℕ → ℕ → Reply
-  ended : M.Ending → Reply
-  walked : M.Ending → ℕ → ℕ → ℕ → Reply
+  turned : ℕ → ℕ → ℕ → ℕ → ℕ → ℕ → ℕ → Reply
+  ended : Ending → ℕ → Reply
+  walked : Ending → ℕ → ℕ → ℕ → Reply
   refused : ℕ → ℕ → Reply
 
 abbrev pub saysStart : StartAnswer → Reply
@@ -51,13 +48,12 @@ saysStep (Step.Stepped k j) = counts k j
 saysStep (Step.Refused r) = refused (r .number) (r .place)
 
 abbrev pub saysStride : StrideAnswer → Reply
-saysStride Stride.Quiet = ended M.quiet
-saysStride Stride.Full = ended M.full
-saysStride (Stride.Made t) = turned (t .receiver) (t .sender) (t .marker) (t .threads) (t .markers)
+saysStride (Stride.Made t) = turned (t .receiver) (t .sender) (t .marker) (t .threads) (t .markers) (t .allowance .allowed) (t .allowance .left)
+saysStride (Stride.Ended e n) = ended e n
 saysStride (Stride.Refused r) = refused (r .number) (r .place)
 
 abbrev pub saysWalk : WalkAnswer → Reply
-saysWalk (Walk.Walked w) = walked (endingOf (w .ending)) (w .steps) (w .threads) (w .markers)
+saysWalk (Walk.Walked w) = walked (w .ending) (w .steps) (w .threads) (w .markers)
 saysWalk (Walk.Refused r) = refused (r .number) (r .place)
 
 -- ---- what a call leaves: its reply, and every word of both lists
@@ -74,7 +70,7 @@ left r l ml = record { reply = r; threads = l; markers = ml }
 abbrev pub unchanged : Reply → Memory → Left
 unchanged r m = left r (m .threads) (m .markers)
 
--- the first refusal of 1 to 12, 22 and, for step and walk, 23; else what the call does
+-- the first refusal of 1 to 12, 22 and, for step, walk and stride, 23; else what the call does
 abbrev pub unless : Found F.Refusal → Memory → Left → Left
 unless clear m x = x
 unless (hit r) m x = unchanged (refused (r .number) (r .place)) m
@@ -102,21 +98,25 @@ stepOf f choices m r s = unless (lentRefusal f choices m) m (resultLeft m (stepI
 unfoldable pub walkOf : List ℕ → List ℕ → Memory → ℕ → Left
 walkOf f choices m allowed = unless (lentRefusal f choices m) m (walkLeft (walkIn (arrayIn f) (choicesOf choices) allowed m))
 
--- one step of the walk, told: the agents are those of the two threads before it
-unfoldable pub turnLeft : Array → Memory → Attempt → Result → Left
-turnLeft a m u (stops n) = unchanged (ended M.full) m
-turnLeft a m u (leaves n) =
-    left
-    (turned (getD (configOf a m) (u .receiver) nobody .agent) (getD (configOf a m) (u .sender) nobody .agent) (markerMade a m u) (n .threadCount) (n .markerCount))
-    (n .threads) (n .markers)
+-- the walk's next step, told: the two agents of the pair, the marker number, the counts after it, and one step less left; or its ending, with
+-- the steps made before it, which are those allowed less those left
+unfoldable pub nextLeft : Array → Memory → Allowance → Next → Left
+nextLeft a m w (M.ended x) = unchanged (ended x (w .allowed - w .left)) m
+nextLeft a m w (moved u n) =
+    let r = getD (configOf a m) (u .receiver) nobody in
+    let s = getD (configOf a m) (u .sender) nobody in
+    left (turned (r .agent) (s .agent) (markerMade a m u) (n .threadCount) (n .markerCount) (w .allowed) (w .left - 1)) (n .threads) (n .markers)
 
-unfoldable pub foundLeft : Array → Memory → Found Attempt → Left
-foundLeft a m clear = unchanged (ended M.quiet) m
-foundLeft a m (hit u) = turnLeft a m u (stepIn a m u)
+unfoldable pub strideOf : List ℕ → List ℕ → Memory → Allowance → Left
+strideOf f choices m w = unless (lentRefusal f choices m) m (nextLeft (arrayIn f) m w (nextIn (arrayIn f) (choicesOf choices) (w .left) m))
 
-unfoldable pub strideOf : List ℕ → List ℕ → Memory → Left
-strideOf f choices m =
-    unless (lentRefusal f choices m) m (foundLeft (arrayIn f) m (firstReady (words (entriesOf m)) (arrayIn f) (choicesOf choices) (configOf (arrayIn f) m)))
+-- a walk followed to its end by strides, each lent the lists, the counts and the allowance that the last one left: the number of steps told,
+-- then the ending, the steps made as they are told with it, and the lists
+pub data Followed (f choices : List ℕ) : Memory → Allowance → ℕ → Ending → ℕ → Memory → Type 0 where
+  over : (m : Memory) (w : Allowance) (x : Ending) (s : ℕ) → strideOf f choices m w ≡ unchanged (ended x s) m → Followed f choices m w 0 x s m
+  then : (m : Memory) (w : Allowance) (r q y k j p l : ℕ) (ts ms : List ℕ) → strideOf f choices m w ≡ left (turned r q y k j p l) ts ms
+      → (n : ℕ) (x : Ending) (s : ℕ) (e : Memory) → Followed f choices (memory ts k ms j) record { allowed = p; left = l } n x s e
+      → Followed f choices m w (suc n) x s e
 
 -- ---- the whole promise of each entry
 
@@ -126,6 +126,7 @@ pub record StartPromise (f choices : List ℕ) (m : Memory) (x : StartAnswer) (l
   pub starts : startRefusal f choices ≡ clear → Starts (arrayIn f) (choicesOf choices) m (startIn (arrayIn f) (choicesOf choices) m)
   -- and what a start leaves is well formed
   pub formed : startRefusal f choices ≡ clear → (n : Memory) → startIn (arrayIn f) (choicesOf choices) m ≡ M.leaves n → formed (arrayIn f) n ≡ true
+  pub listed : (n p : ℕ) → saysStart x ≡ refused n p → StartNumber n
 
 pub record StepPromise (f choices : List ℕ) (m : Memory) (r s : ℕ) (x : StepAnswer) (l ml : List ℕ) : Type 0 where
   pub leaves : left (saysStep x) l ml ≡ stepOf f choices m r s
@@ -136,6 +137,7 @@ pub record StepPromise (f choices : List ℕ) (m : Memory) (r s : ℕ) (x : Step
       (stepIn (arrayIn f) m (try (choicesOf choices) r s))
   -- a step keeps 23
   pub formed : lentRefusal f choices m ≡ clear → (n : Memory) → stepIn (arrayIn f) m (try (choicesOf choices) r s) ≡ M.leaves n → formed (arrayIn f) n ≡ true
+  pub listed : (n p : ℕ) → saysStep x ≡ refused n p → StepNumber n
 
 pub record WalkPromise (f choices : List ℕ) (m : Memory) (allowed : ℕ) (x : WalkAnswer) (l ml : List ℕ) : Type 0 where
   pub leaves : left (saysWalk x) l ml ≡ walkOf f choices m allowed
@@ -147,10 +149,20 @@ pub record WalkPromise (f choices : List ℕ) (m : Memory) (allowed : ℕ) (x : 
   pub ends : lentRefusal f choices m ≡ clear
       → Ends (arrayIn f) (choicesOf choices) allowed (walkIn (arrayIn f) (choicesOf choices) allowed m) (walkIn (arrayIn f) (choicesOf choices) allowed m .ending)
   pub formed : lentRefusal f choices m ≡ clear → formed (arrayIn f) (walkIn (arrayIn f) (choicesOf choices) allowed m .left) ≡ true
+  pub listed : (n p : ℕ) → saysWalk x ≡ refused n p → WalkNumber n
 
--- the answer that a turn of a walk with steps left is; such a walk is never spent
-abbrev pub strideAnswer : E.Stride → StrideAnswer
-strideAnswer (T.Ended Quiet) = Stride.Quiet
-strideAnswer (T.Ended Spent) = Stride.Full
-strideAnswer (T.Ended Full) = Stride.Full
-strideAnswer (T.Made t) = Stride.Made t
+pub record StridePromise (f choices : List ℕ) (m : Memory) (w : Allowance) (x : StrideAnswer) (l ml : List ℕ) : Type 0 where
+  pub leaves : left (saysStride x) l ml ≡ strideOf f choices m w
+  -- the walk that is left is this ending, or this step and the walk from there with one step less left
+  pub tells : walkIn (arrayIn f) (choicesOf choices) (w .left) m
+      ≡ resumed (arrayIn f) (choicesOf choices) (w .left) m (nextIn (arrayIn f) (choicesOf choices) (w .left) m)
+  -- followed to its end from an allowance that is whole, it tells what the walk answers, and as many steps as it says
+  pub whole : w .left ≡ w .allowed → (n : ℕ) (x : Ending) (s : ℕ) (e : Memory) → Followed f choices m w n x s e
+      → (walkOf f choices m (w .allowed) ≡ left (walked x s (e .threadCount) (e .markerCount)) (e .threads) (e .markers)) × (n ≡ s)
+  -- in the calculus, where nothing is refused: the ending as the walk's; or the step of the first ready pair, what it leaves, and the marker of its continuation
+  pub follows : lentRefusal f choices m ≡ clear
+      → Tells (arrayIn f) (choicesOf choices) (w .left) m (nextIn (arrayIn f) (choicesOf choices) (w .left) m)
+  -- a step keeps 23
+  pub formed : lentRefusal f choices m ≡ clear → (u : Attempt) (n : Memory) → nextIn (arrayIn f) (choicesOf choices) (w .left) m ≡ moved u n
+      → formed (arrayIn f) n ≡ true
+  pub listed : (n p : ℕ) → saysStride x ≡ refused n p → WalkNumber n

@@ -1,11 +1,20 @@
 -- Array and table files, written out byte by byte, and the marked cases of 01 over them as rows of one table (01, "Arrays A, B
--- and C").
-use Prim.Native.Nat.{ℕ, _+_, _*_, _/_, _%_}
+-- and C"); what the other entries answer and leave on such files, as rows too.
+use Prim.Native.Nat.{ℕ, _+_, _-_, _/_, _%_}
 use mathlib.Core.Path.{_≡_}
 use mathlib.Core.List.{List, [], _∷_, _++_}
 use lib.ListN.{length, replicate}
 use Rattle.wire.specs.Numbers.{wordSum}
-use Rattle.handover.specs.Front.{Said, held, rule, judged}
+use Rattle.model.specs.declared.Ending.the-variants.{Quiet, Spent, Full}
+use Rattle.model.specs.Memory.{Memory, memory}
+use Rattle.engine.specs.declared.Allowance.{Allowance}
+use Rattle.engine.specs.declared.Walk.{Walk}
+use Rattle.handover.specs.Refusals.{ArrayNumber, TableNumber, StartNumber, StepNumber, WalkNumber}
+use Rattle.handover.specs.Front.{Said, held, rule, Reading, read}
+use Rattle.handover.specs.Engine as E
+use Rattle.handover.specs.Engine.{Left, left, startOf, stepOf, strideOf, WalkPromise}
+use Rattle.handover.specs.declared.WalkAnswer.{WalkAnswer}
+use Rattle.handover.specs.declared.WalkAnswer.the-variants.{Walked}
 
 -- ---- writing files
 
@@ -42,9 +51,22 @@ plain kind x l = record16 kind 0 l 0 x 0
 abbrev pub passing : ℕ → ℕ → ℕ → ℕ → List ℕ
 passing kind x y l = record16 kind 1 l 0 x y
 
+-- an agent of a kind with its arguments
+abbrev pub agent : ℕ → ℕ → List ℕ → ℕ → List ℕ
+agent kind x ys l = kind ∷ length ys ∷ (le16 l ++ (le16 0 ++ (x ∷ 0 ∷ (ys ++ replicate (8 - length ys) 0))))
+
+-- a word sum, and the letters
+abbrev pub summed : List ℕ → ℕ → List ℕ → List ℕ
+summed s sum letters = s ++ (le32 sum ++ letters)
+
 -- the sum of all words so far, and the letters
 abbrev pub sealed : List ℕ → List ℕ → List ℕ
-sealed s letters = s ++ (le32 (wordSum s (length s / 4)) ++ letters)
+sealed s letters = summed s (wordSum s (length s / 4)) letters
+
+-- an array file with a remark and a word sum that is given
+abbrev pub remarked : List ℕ → ℕ → ℕ → List (List ℕ) → List ℕ
+remarked remark sum names records =
+    summed (remark ++ (join records ++ (le32 (length remark) ++ (le16 (length records) ++ le16 names)))) sum (80 ∷ 73 ∷ 83 ∷ 49 ∷ [])
 
 -- an array file without a remark
 abbrev pub pis : ℕ → List (List ℕ) → List ℕ
@@ -58,21 +80,33 @@ sumOf names records = let s = join records ++ (le32 0 ++ (le16 (length records) 
 abbrev pub row : ℕ → List ℕ
 row first = first ∷ replicate 31 0
 
+-- a claim on balance k, and on balance 0
+abbrev pub claimIn : ℕ → ℕ → ℕ → List ℕ
+claimIn k agent most = le16 agent ++ (le16 most ++ (le16 k ++ le16 0))
+
 abbrev pub claim : ℕ → ℕ → List ℕ
-claim agent most = le16 agent ++ (le16 most ++ (le16 0 ++ le16 0))
+claim agent most = claimIn 0 agent most
 
 abbrev pub numbers : List ℕ → List ℕ
 numbers [] = []
 numbers (w ∷ ws) = le16 w ++ numbers ws
 
--- a table file of rows, one balance (bound, weights and padding) and claims on it, for an array with a word sum
-abbrev pub pic : ℕ → List (List ℕ) → ℕ → List ℕ → List (List ℕ) → List ℕ
-pic sum rows bound weights claims =
+-- a balance: bound, weights and padding
+abbrev pub balance : ℕ → List ℕ → List ℕ
+balance bound weights = le32 bound ++ numbers weights
+
+-- a table file of rows, balances and claims, for an array with a word sum
+abbrev pub balanced : ℕ → List (List ℕ) → List (List ℕ) → List (List ℕ) → List ℕ
+balanced sum rows balances claims =
     let r = join rows in
-    let b = le32 bound ++ numbers weights in
+    let b = join balances in
     let c = join claims in
-    sealed (r ++ (b ++ (c ++ (le32 0 ++ (le32 (length r) ++ (le32 (length r + length b) ++ (le16 1 ++ (le16 (length claims) ++ le32 sum))))))))
-    (80 ∷ 73 ∷ 67 ∷ 49 ∷ [])
+    let starts = le32 0 ++ (le32 (length r) ++ le32 (length r + length b)) in
+    sealed (r ++ (b ++ (c ++ (starts ++ (le16 (length balances) ++ (le16 (length claims) ++ le32 sum)))))) (80 ∷ 73 ∷ 67 ∷ 49 ∷ [])
+
+-- one of one balance (bound, weights and padding)
+abbrev pub pic : ℕ → List (List ℕ) → ℕ → List ℕ → List (List ℕ) → List ℕ
+pic sum rows bound weights claims = balanced sum rows (balance bound weights ∷ []) claims
 
 -- ---- A, B and C
 
@@ -89,6 +123,13 @@ nodesC = new 0 1 ∷ choice 2 4 ∷ plain 4 0 3 ∷ stop ∷ plain 5 0 5 ∷ sto
 abbrev pub tableA : ℕ → ℕ → ℕ → ℕ → ℕ → List ℕ
 tableA row1 row2 bound w6 most =
     pic (sumOf 3 nodesA) (row 1 ∷ row row1 ∷ row row2 ∷ []) bound (0 ∷ 0 ∷ 0 ∷ 0 ∷ 0 ∷ 1 ∷ w6 ∷ 0 ∷ []) (claim 6 most ∷ [])
+
+-- A's table with a second balance, w5 = 300 and w6 = 299, and a claim on it
+abbrev pub twoBalances : List ℕ
+twoBalances =
+    let first = balance 1 (0 ∷ 0 ∷ 0 ∷ 0 ∷ 0 ∷ 1 ∷ 1 ∷ 0 ∷ []) in
+    let second = balance 70000 (0 ∷ 0 ∷ 0 ∷ 0 ∷ 0 ∷ 300 ∷ 299 ∷ 0 ∷ []) in
+    balanced (sumOf 3 nodesA) (row 1 ∷ row 2 ∷ row 2 ∷ []) (first ∷ second ∷ []) (claim 6 1 ∷ claimIn 1 6 233 ∷ claim 6 1 ∷ claim 6 1 ∷ [])
 
 -- ---- the rows: array file, table file, and what 01 says
 
@@ -120,4 +161,136 @@ cases =
     ∷ case (pis 1 nodesB) (pic (sumOf 1 nodesB) (row 1 ∷ []) 1 (0 ∷ 0 ∷ 0 ∷ 0 ∷ 0 ∷ 1 ∷ 0 ∷ 0 ∷ []) []) (rule 4 (4 ∷ 2 ∷ 0 ∷ []))
     -- *C, w2 = w4 = 1, bound 1: accepted, pair not live.
     ∷ case (pis 1 nodesC) (pic (sumOf 1 nodesC) (row 1 ∷ []) 1 (0 ∷ 0 ∷ 1 ∷ 0 ∷ 1 ∷ 0 ∷ []) []) (held 6 1 1 0)
+    -- A with a second balance, bound 70,000: 299 × 234 does not exceed it. In balance 0 claim 1 would keep rule 5.
+    ∷ case (pis 3 nodesA) twoBalances (rule 5 (1 ∷ []))
     ∷ []
+
+-- ---- the readers: files, and what the reader says
+
+-- B with a remark that makes the word sum wrap: 2^32 - 1 + 67,305,985 and, with the start 8, 8 more than B's own 1,179,676
+abbrev pub remark : List ℕ
+remark = 255 ∷ 255 ∷ 255 ∷ 255 ∷ 1 ∷ 2 ∷ 3 ∷ 4 ∷ []
+
+abbrev pub remarkedB : List ℕ
+remarkedB = remarked remark 68485668 1 nodesB
+
+-- M, N, K and Q, of a table that breaks a rule; a trailer's numbers: start, M, N, word sum
+abbrev pub tablesRead : List (List ℕ × List ℕ × Reading)
+tablesRead = (pis 3 nodesA, twoBalances, read (8 ∷ 3 ∷ 2 ∷ 4 ∷ [])) ∷ []
+
+abbrev pub arraysRead : List (List ℕ × Reading)
+arraysRead = (remarkedB, read (8 ∷ 7 ∷ 1 ∷ 68485668 ∷ [])) ∷ []
+
+-- ---- the engine: a call, and what it answers and leaves
+
+-- Two names are sent to a resource, which opens a third name and then has choice node 8: nothing, or an out on the opened name.
+abbrev pub nodesE : List (List ℕ)
+nodesE =
+    new 0 1
+    ∷ new 1 2
+    ∷ par 3 4
+    ∷ agent 4 0 (1 ∷ 0 ∷ []) 5
+    ∷ agent 6 0 (2 ∷ 3 ∷ []) 6
+    ∷ plain 4 1 7
+    ∷ new 4 8
+    ∷ stop
+    ∷ choice 9 10
+    ∷ stop
+    ∷ agent 4 4 (2 ∷ 3 ∷ []) 11
+    ∷ stop
+    ∷ []
+
+-- every choice to the left; choice node 8 to the right: byte 1, weight 1
+abbrev pub toLeft : List ℕ
+toLeft = replicate 128 0
+
+abbrev pub toRight : List ℕ
+toRight = 0 ∷ 1 ∷ replicate 126 0
+
+-- lists after the start of A, B and E
+abbrev pub startedA : Memory
+startedA = memory (3 ∷ 0 ∷ 1 ∷ 65537 ∷ 0 ∷ 5 ∷ 0 ∷ 1 ∷ 0 ∷ 0 ∷ []) 2 [] 0
+
+abbrev pub startedB : List ℕ → Memory
+startedB markers = memory (2 ∷ 0 ∷ 1 ∷ 4 ∷ 0 ∷ 1 ∷ []) 2 markers 0
+
+abbrev pub wordsE : List ℕ
+wordsE = 3 ∷ 0 ∷ 1 ∷ 65537 ∷ 0 ∷ 0 ∷ 0 ∷ 4 ∷ 0 ∷ 1 ∷ 0 ∷ 0 ∷ 0 ∷ 0 ∷ []
+
+abbrev pub startedE : Memory
+startedE = memory (wordsE ++ replicate 8 7) 2 (9 ∷ 9 ∷ 9 ∷ 9 ∷ 9 ∷ []) 0
+
+-- E's threads after its step: the resource, the out on name 4 (opened by new 4 under marker 1: 1 + 65,536 × 4 + 1), the sender's continuation
+abbrev pub four : List ℕ
+four = 4 ∷ 0 ∷ 1 ∷ 0 ∷ 0 ∷ 0 ∷ 0 ∷ []
+
+abbrev pub ten : List ℕ
+ten = 10 ∷ 1 ∷ 0 ∷ 0 ∷ 65537 ∷ 1 ∷ 262146 ∷ []
+
+abbrev pub five : List ℕ
+five = 5 ∷ 0 ∷ 0 ∷ 65537 ∷ 0 ∷ 0 ∷ 0 ∷ []
+
+abbrev pub steppedE : List ℕ
+steppedE = four ++ (ten ++ (five ++ (7 ∷ [])))
+
+-- two entries, the first that of E's step
+abbrev pub entriesE : List ℕ
+entriesE = 4 ∷ 3 ∷ 0 ∷ 0 ∷ 4 ∷ 10 ∷ 0 ∷ 0 ∷ 9 ∷ []
+
+pub data Call : Type 0 where
+  start : List ℕ → List ℕ → List ℕ → Left → Call
+  step : List ℕ → List ℕ → Memory → ℕ → ℕ → Left → Call
+  stride : List ℕ → List ℕ → Memory → Allowance → Left → Call
+
+-- what a row says
+abbrev pub Leaves : Call → Type 0
+Leaves (start f choices l x) = startOf f choices (memory l 0 [] 0) ≡ x
+Leaves (step f choices m r s x) = stepOf f choices m r s ≡ x
+Leaves (stride f choices m w x) = strideOf f choices m w ≡ x
+
+abbrev pub calls : List Call
+calls =
+    start (pis 5 nodesE) toRight (replicate 15 7) (left (E.counts 2 0) (wordsE ++ (7 ∷ [])) [])
+    -- B with a second name, which nothing binds: 11 at name 1
+    ∷ start (pis 2 nodesB) toLeft (7 ∷ 7 ∷ []) (left (E.refused 11 1) (7 ∷ 7 ∷ []) [])
+    ∷ step (pis 5 nodesE) toRight startedE 1 0 (left (E.counts 3 1) steppedE (4 ∷ 3 ∷ 0 ∷ 0 ∷ 9 ∷ []))
+    -- the same step beside two threads of agent 5, its marker listed, in a walk of 300 steps with 7 left, told: agents 4 and 3, marker 1, 5 threads,
+    -- 2 markers, 6 steps left
+    ∷ stride (pis 5 nodesE) toRight (memory (wordsE ++ (five ++ (five ++ replicate 8 7))) 4 entriesE 2) record { allowed = 300; left = 7 }
+    (left (E.turned 4 3 1 5 2 300 6) (four ++ (five ++ (five ++ (ten ++ (five ++ (7 ∷ [])))))) entriesE)
+    -- B with a ready pair and none of 300 steps left
+    ∷ stride (pis 1 nodesB) toLeft (startedB []) record { allowed = 300; left = 0 } (left (E.ended Spent 300) (startedB [] .threads) [])
+    ∷ []
+
+-- ---- the walk's own answer: whatever answer has the promise on these files and lists is this one
+
+pub record Ended : Type 0 where
+  pub array : List ℕ
+  pub lent : Memory
+  pub allowed : ℕ
+  pub walk : Walk
+
+abbrev pub ended : List ℕ → Memory → ℕ → Walk → Ended
+ended f m k w = record { array = f; lent = m; allowed = k; walk = w }
+
+abbrev pub Answers : Ended → Type 0
+Answers c = (x : WalkAnswer) (l ml : List ℕ) → WalkPromise (c .array) toLeft (c .lent) (c .allowed) x l ml → x ≡ Walked (c .walk)
+
+abbrev pub endings : List Ended
+endings =
+    -- A: quiet after its step
+    ended (pis 3 nodesA) startedA 5 record { ending = Quiet; steps = 1; threads = 1; markers = 0 }
+    -- "B with 2 steps allowed: spent"
+    ∷ ended (pis 1 nodesB) (startedB (replicate 8 9)) 2 record { ending = Spent; steps = 2; threads = 2; markers = 2 }
+    -- B without room for a marker: full
+    ∷ ended (pis 1 nodesB) (startedB []) 2 record { ending = Full; steps = 0; threads = 2; markers = 0 }
+    ∷ []
+
+-- ---- numbers that the entries do not refuse by: those next to the listed ones
+
+pub record Unlisted : Type 0 where
+  pub array : (ArrayNumber 0 → ⊥) × (ArrayNumber 13 → ⊥)
+  pub table : (TableNumber 0 → ⊥) × (TableNumber 22 → ⊥)
+  pub start : (StartNumber 13 → ⊥) × (StartNumber 23 → ⊥) × (StartNumber 27 → ⊥) × (StartNumber 29 → ⊥)
+  pub step : (StepNumber 13 → ⊥) × (StepNumber 21 → ⊥) × (StepNumber 30 → ⊥)
+  pub walk : (WalkNumber 13 → ⊥) × (WalkNumber 21 → ⊥) × (WalkNumber 24 → ⊥) × (WalkNumber 28 → ⊥)

@@ -1,3 +1,5 @@
+pub mod Refusals
 pub mod Front
 pub mod Engine
+pub mod Bodies
 pub mod Files

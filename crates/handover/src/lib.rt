@@ -1,34 +1,39 @@
 // The front page: every public entry with its whole contract. Whoever reads this file and the definitions that it cites knows all
 // that is promised. No entry has a `requires`; each answers every byte string. Bodies are thin. Depends on every crate below.
 //
-//   read_array   specs/File of arrays: refusals 1 to 12, or what the trailer says
-//   remark       the same file: the leading part of the caller's own slice
-//   read_table   specs/Read of tables: refusals 1 to 21, or the sizes
+//   read_array   specs/Front: refusals 1 to 12, or what the trailer says
+//   remark       specs/File of arrays: the leading part of the caller's own slice
+//   read_table   specs/Front: refusals 1 to 21, or the sizes
 //   check        specs/Front: refusals 1 to 21, the first broken rule and its place, or held; held exactly when the five rules hold (demand 2),
 //                and then demand 3
 //   start        specs/Engine: refusals 1 to 12, 22, 28, or the thread count; the list holds the calculus' start
 //   step         specs/Engine: refusals 1 to 12, 22 to 29, or the new counts; the lists hold the calculus' next configuration
 //   walk         specs/Engine: refusals 1 to 12, 22, 23, or the ending, the steps made and the counts
-//   stride       specs/Engine: one step of that walk, told: its two agents and the marker number of the receiver's continuation
+//   stride       specs/Engine: that walk told step by step: each step's two agents and the marker number of the receiver's continuation, then
+//                the ending and the steps made; refusals as for the walk
+//
+// The numbers that each may refuse by are in specs/Refusals.
 //
 // `check` takes about 240 KiB of stack, for the checker's own lists and their copies. `start`, `step`, `walk` and `stride` take up to about
-// 220 KiB on an array 541 levels deep (measured), for the table of free names, the marks of marker entries and a frame a level; 640 levels
-// are the most that a file can have.
+// 260 KiB (measured), for the table of free names, the marks of marker entries and a frame for each new, par and choice on the deepest path
+// of one unfolding, at most 640.
 ghost use mathlib.Core.Path.{_≡_};
 ghost use mathlib.Core.List.{[]};
-ghost use Rattle.arrays.specs.File.{readArray, remarkOf, trailerOf, answer};
-ghost use Rattle.tables.specs.Read.{readTable};
-ghost use Rattle.steps.specs.Steps.{memory};
-ghost use Rattle.handover.specs.Front.{Judges, verdictOf};
-ghost use Rattle.handover.specs.Engine.{startRefusal, saysStride, strideAnswer, left, strideOf, StartPromise, StepPromise, WalkPromise};
+ghost use Prim.Native.Nat.{_-_};
+ghost use Rattle.model.specs.Memory.{memory};
+ghost use Rattle.arrays.specs.File.{remarkOf, trailerOf, answer};
+ghost use Rattle.handover.specs.Front.{ArrayPromise, TablePromise, Judges};
+ghost use Rattle.handover.specs.Engine.{startRefusal, StartPromise, StepPromise, WalkPromise, StridePromise};
+ghost use Rattle.handover.specs.Bodies.{verdictOf, strideAnswer};
 use arrays::ArrayAnswer;
-use engine::Ending;
+use engine::Allowance;
 use engine::Stride;
 use engine::Strode;
 use engine::Turn;
 use engine::Walk;
 use engine::Walked;
 use layout::Sizes;
+use model::Ending;
 use records::Check;
 use records::Refusal;
 use rules::Ruling;
@@ -64,17 +69,16 @@ pub enum WalkAnswer {
     Refused(Refusal),
 }
 
-// One step of a walk that has steps left, why there is none, or the first refusal with its place.
+// One step of a walk, its ending with the steps made, or the first refusal with its place.
 pub enum StrideAnswer {
-    Quiet,
-    Full,
     Made(Turn),
+    Ended(Ending, u32),
     Refused(Refusal),
 }
 
 // Reads an array file.
 pub fn read_array(file: &[u8]) -> ArrayAnswer
-    ensures { λ r. ⌜ r ≡ readArray (now (file .entry)) ⌝ }
+    ensures { λ x. ⌜ ArrayPromise (now (file .entry)) x ⌝ }
 {
     arrays::read_array(file)
 }
@@ -88,7 +92,7 @@ pub fn remark(file: &[u8]) -> &[u8]
 
 // Reads a table file beside its array file.
 pub fn read_table(array: &[u8], table: &[u8]) -> TableAnswer
-    ensures { λ r. ⌜ r ≡ readTable (now (array .entry)) (now (table .entry)) ⌝ }
+    ensures { λ x. ⌜ TablePromise (now (array .entry)) (now (table .entry)) x ⌝ }
 {
     tables::read_table(array, table)
 }
@@ -235,20 +239,16 @@ pub fn walk(
 }
 
 // The answer that a turn of the walk is.
-fn stride_of(s: Stride) -> StrideAnswer
-    ensures { λ x. ⌜ x ≡ strideAnswer s ⌝ }
+fn stride_of(s: Stride, allowance: Allowance) -> StrideAnswer
+    ensures { λ x. ⌜ x ≡ strideAnswer s (allowance .allowed - allowance .left) ⌝ }
 {
     match s {
-        Stride::Ended(e) => match e {
-            Ending::Quiet => StrideAnswer::Quiet,
-            Ending::Spent => StrideAnswer::Full,
-            Ending::Full => StrideAnswer::Full,
-        },
+        Stride::Ended(e) => StrideAnswer::Ended(e, allowance.made()),
         Stride::Made(t) => StrideAnswer::Made(t),
     }
 }
 
-// Makes the step of the first ready pair and tells it. A refusal and an ending change no word.
+// The walk told step by step: makes its next step and tells it, or how it ended and the steps made. A refusal and an ending change no word.
 pub fn stride(
     array: &[u8],
     choices: &[u8],
@@ -256,9 +256,10 @@ pub fn stride(
     thread_count: usize,
     markers: &mut [u16],
     marker_count: usize,
+    allowance: Allowance,
 ) -> StrideAnswer
-    ensures { λ x. ⌜ left (saysStride x) (now (threads .exit)) (now (markers .exit))
-        ≡ strideOf (now (array .entry)) (now (choices .entry)) (memory (now (threads .entry)) «thread_count» (now (markers .entry)) «marker_count») ⌝ }
+    ensures { λ x. ⌜ StridePromise (now (array .entry)) (now (choices .entry)) (memory (now (threads .entry)) «thread_count» (now (markers .entry)) «marker_count»)
+        allowance x (now (threads .exit)) (now (markers .exit)) ⌝ }
 {
     let admitted = admit(array, choices);
     match admitted {
@@ -272,10 +273,11 @@ pub fn stride(
                 thread_count,
                 markers,
                 marker_count,
+                allowance,
             );
             match strode {
                 Strode::Refused(number) => StrideAnswer::Refused(numbered(number)),
-                Strode::Strode(s) => stride_of(s),
+                Strode::Strode(s) => stride_of(s, allowance),
             }
         }
     }

@@ -1,3 +1,3 @@
-pub mod Refusals
 pub mod Verdicts
 pub mod Replies
+pub mod Cases

@@ -28,7 +28,7 @@ use Rattle.tables.proofs.Laws.{passed-table}
 use Rattle.handover.specs.declared.Verdict.{Verdict}
 use Rattle.handover.specs.Front.{Said, held, rule, refused, says, IsHeld, arrayIn, sizesIn, tableIn, judged, afterRules, afterRefusals, Judges}
 use Rattle.handover_c.specs.Packed.{packed, Fits, Checks}
-use Rattle.handover_c.proofs.Refusals.{read-array, files-small}
+use Rattle.handover.proofs.Refusals.{read-array, files-small}
 
 -- an agent has at most 8 arguments
 abbrev Few : Option Agent → Type 0

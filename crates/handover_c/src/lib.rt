@@ -2,22 +2,22 @@
 // number, by the definitions in specs/Packed. Nothing is decided here. Depends on the front page and the crates whose types it names.
 //
 // A slice passes as a pointer and its length in elements; see the header for what a caller must see to.
-ghost use Prim.Native.Nat.{_+_, _*_, _^_, _<_};
+ghost use Prim.Native.Nat.{_+_, _*_, _^_, _≤_, _<_};
 ghost use mathlib.Core.Path.{_≡_};
 ghost use mathlib.Core.List.{[]};
 ghost use lib.ListN.{length};
 ghost use Rattle.arrays.specs.File.{remarkOf};
-ghost use Rattle.engine.specs.Engine.{endingOf};
-ghost use Rattle.steps.specs.Steps.{memory};
+ghost use Rattle.model.specs.Memory.{memory};
 ghost use Rattle.handover.specs.Front.{says};
+ghost use Rattle.handover.specs.Refusals.{StartNumber, StepNumber, WalkNumber};
 ghost use Rattle.handover.specs.Engine.{saysStart, saysStep, saysWalk};
-ghost use Rattle.handover_c.specs.Packed.{packed, packedReply, denied, counted, ending, Fits, FitsRefusal, FitsReply, FitsCounts};
+ghost use Rattle.handover_c.specs.Packed.{packed, packedReply, denied, counted, ending, Fits, FitsReply, FitsCounts};
 ghost use Rattle.handover_c.specs.Packed.{Checks, Starts, Steps, Walks};
-use engine::Ending;
 use handover::StartAnswer;
 use handover::StepAnswer;
 use handover::Verdict;
 use handover::WalkAnswer;
+use model::Ending;
 use records::Refusal;
 
 // A rule's number with the figures of its place.
@@ -30,7 +30,7 @@ fn pack_rule(number: u64, first: usize, second: usize, third: usize) -> u64
 
 // A refusal's number with its place.
 fn pack_refusal(r: Refusal) -> u64
-    requires { ⌜ FitsRefusal (r .number) (r .place) ⌝ }
+    requires { ⌜ (r .number ≤ 29) × (r .place < 2 ^ 16) ⌝ }
     ensures { λ x. ⌜ x ≡ denied (r .number) (r .place) ⌝ }
 {
     100 + r.number as u64 + 256 * r.place as u64
@@ -46,7 +46,7 @@ fn pack_counts(code: u64, threads: usize, markers: usize, steps: u32) -> u64
 
 // The code of an ending.
 fn ending_code(e: Ending) -> u64
-    ensures { λ x. ⌜ (x ≡ ending (endingOf e)) × (x < 3) ⌝ }
+    ensures { λ x. ⌜ (x ≡ ending e) × (x < 3) ⌝ }
 {
     match e {
         Ending::Quiet => 0,
@@ -73,7 +73,7 @@ fn pack_verdict(v: Verdict) -> u64
 
 // The number of a start's answer.
 fn pack_start(x: StartAnswer) -> u64
-    requires { ⌜ FitsReply (saysStart x) ⌝ }
+    requires { ⌜ FitsReply StartNumber (saysStart x) ⌝ }
     ensures { λ r. ⌜ r ≡ packedReply 0 (saysStart x) ⌝ }
 {
     match x {
@@ -84,7 +84,7 @@ fn pack_start(x: StartAnswer) -> u64
 
 // The number of a step's answer.
 fn pack_step(x: StepAnswer) -> u64
-    requires { ⌜ FitsReply (saysStep x) ⌝ }
+    requires { ⌜ FitsReply StepNumber (saysStep x) ⌝ }
     ensures { λ r. ⌜ r ≡ packedReply 1 (saysStep x) ⌝ }
 {
     match x {
@@ -95,7 +95,7 @@ fn pack_step(x: StepAnswer) -> u64
 
 // The number of a walk's answer.
 fn pack_walk(x: WalkAnswer) -> u64
-    requires { ⌜ FitsReply (saysWalk x) ⌝ }
+    requires { ⌜ FitsReply WalkNumber (saysWalk x) ⌝ }
     ensures { λ r. ⌜ r ≡ packedReply 0 (saysWalk x) ⌝ }
 {
     match x {

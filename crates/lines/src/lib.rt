@@ -1,10 +1,11 @@
 // The lines that answers are printed as, and files read whole: one place for every program.
 // Promises nothing beyond safety: what is written to a file descriptor no contract can say; the programs' stored output tests it.
-// Depends on handover, layout and records (the verdict), io and libc.
+// Depends on handover, layout and records (the verdict), model (the endings), io, os and libc.
 ghost use Rattle.io.specs.Counts.{Counts};
 use handover::Verdict;
 use layout::Sizes;
 use libc::STDOUT_FILENO;
+use model::Ending;
 use records::Refusal;
 
 // A space and the number.
@@ -37,6 +38,16 @@ pub fn print_refusal(r: Refusal) {
     io::write_all(STDOUT_FILENO, b"refused");
     print_figure(r.number as usize);
     print_figure(r.place);
+}
+
+// 01's word for an ending.
+pub fn print_ending(ending: Ending) {
+    match ending {
+        Ending::Quiet => io::write_all(STDOUT_FILENO, b"quiet"),
+        Ending::Spent => io::write_all(STDOUT_FILENO, b"spent"),
+        Ending::Full => io::write_all(STDOUT_FILENO, b"full"),
+    }
+    ;
 }
 
 // `held`, M, N, K, Q; or `rule`, its number and place figures; or `refused`, number, place.

@@ -1,22 +1,38 @@
 -- The rows of the table of cases, by computation, and demand 3 at array A.
-use Prim.Native.Nat.{ℕ, zero, suc}
-use mathlib.Core.Path.{_≡_, refl}
-use mathlib.Core.List.{List}
+use Prim.Native.Nat.{ℕ, zero, suc, _≤_, _<_}
+use mathlib.Core.Path.{_≡_, refl, sym, ap, subst, _∙_}
+use mathlib.Core.Logic.{_⊎_, inl, inr, ⊎-elim}
+use mathlib.Core.Bool.{Bool, true, false, _||_, false≢true, true≢false}
+use mathlib.Core.List.{List, [], _∷_}
+use mathlib.Core.Option.{Option, none, some}
+use lib.Dec.{eqb}
+use lib.ListN.{getD}
 use native.Mathlib.Omega.{arith}
+use borrow.Author.Tests.{eqb-true, eqb-false}
 use Rattle.laws.specs.Search as F
+use Rattle.laws.specs.Search.{Found, clear, hit}
 use Rattle.laws.specs.Lists as L
 use Rattle.laws.specs.Lists.{All}
+use Rattle.laws.proofs.Search.{or-split, clear-hit}
 use Rattle.model.specs.Tree as T
 use Rattle.model.specs.Formed as W
 use Rattle.model.specs.Formed.{WellFormed}
 use Rattle.model.specs.Calculus as S
-use Rattle.model.specs.Calculus.{calculus, Choices, Attempt, run}
+use Rattle.model.specs.Tree.{Array, Sort, Agent, Proc, out, resource}
+use Rattle.model.specs.Calculus.{Marker, Cell, Thread, Config, calculus, Choices, Attempt, Answer, run}
 use Rattle.model.specs.Numbers as N
 use Rattle.model.specs.Memory as M
+use Rattle.model.specs.declared.Ending.the-variants.{Quiet, Spent, Full}
+use Rattle.model.specs.Memory.{Result, stops, leaves, standsFor}
 use Rattle.model.specs.Rules as U
-use Rattle.model.specs.Rules.{ClaimsFit, held, verdict}
-use Rattle.model.specs.Safe.{Safe}
-use Rattle.model.specs.Cases.{A, tableA, table, Says, rows}
+use Rattle.model.specs.Rules.{Table, balanceOf, Rule2, Rule3, Rule4At, claimWeight, Rule5At, PairAt, ClaimsFit, Broken, at, verdict}
+use Rattle.model.specs.Rules.{Before, FirstBroken, broken1, broken2, broken3, broken4, broken5}
+use Rattle.model.specs.Safe as Z
+use Rattle.model.specs.Safe.{Safe, Flows}
+use Rattle.model.specs.Cases.{A, B, D, tableA, table, claim, rowsA, weightsA, limits, tableD, opened, thread, threeOfA, twiceBroken}
+use Rattle.model.proofs.Verdict.{live-Live}
+use Rattle.model.specs.Cases.{pair, lists, ended, A₁, B₀, B₁, B₁₂, B₂, B₃, B₄, G, G₁, G₂, Row, Says}
+use Rattle.model.specs.Cases.{rows, safeRows, stepRows, walkRows, toldRows, laterRows}
 use Rattle.model.proofs.Safety.{demand3}
 
 -- Whoever unfolds this unfolds every definition of the model.
@@ -28,13 +44,331 @@ unfolding F.test F.andThen F.under F.first F.every F.any F.sum L.one L.all L.has
     S.stepped S.attempt S.start S.attempts S.run
     N.sameEntry N.position N.extend N.numbers N.listAfter N.markersAfter N.startLent N.settle N.afterLent N.attemptsLent
     M.words M.threadIn M.threadsIn M.wordsOf M.entryIn M.entriesIn M.numbersOf M.isResource M.isOut M.wordFormed M.threadFormed M.entryFormed M.unlike M.formed
+    M.cellOf M.decodeWord M.standsFor N.decodeTo N.decode N.mapCell Z.total
     M.store M.fitted M.startIn M.onAnswer M.stepIn M.isNext M.firstReady M.onPair M.onStep M.walkIn
     U.within U.shareBit U.fitBoth U.live U.taken U.onLive U.pairs U.check1 U.check2 U.arguments3 U.check3 U.balances4 U.check4 U.check5 U.verdict
 computed = tt
 
+-- ---- safe and not
+
+-- the free names of agents 3 and 6 of A
+free3 : (v : ℕ) → T.isFree (T.procAt A 3) v ≡ true → (v ≡ 0) ⊎ (v ≡ 1)
+unfolding computed
+free3 v h =
+    ⊎-elim (λ e. inl (eqb-true v 0 e))
+    (λ e. ⊎-elim (λ d. ⊎-elim (λ c. inr (eqb-true v 1 c)) (λ c. absurd (false≢true c)) (or-split (eqb v 1) false d))
+    (λ d. absurd (false≢true d)) (or-split (eqb v 1 || false) false e))
+    (or-split (eqb v 0) ((eqb v 1 || false) || false) h)
+
+free6 : (v : ℕ) → T.isFree (T.procAt A 6) v ≡ true → v ≡ 2
+unfolding computed
+free6 v h = ⊎-elim (λ e. eqb-true v 2 e) (λ e. absurd (false≢true e)) (or-split (eqb v 2) false h)
+
+-- a cell is held
+abbrev isHeld : Cell Marker → Bool
+isHeld Cell.unheld = false
+isHeld (Cell.holds o m) = true
+
+-- the table that is filled to the brim
+abbrev brim : Table
+brim = limits (1 ∷ []) 131073 2
+
+-- what Flows asks of one name of a thread
+abbrev Flow : Table → Thread Marker (Cell Marker) → ℕ → Type 0
+Flow t th v = (o : ℕ) × (m : Marker) × (getD (th .env) v Cell.unheld ≡ Cell.holds o m) × (t .row v o ≡ true)
+
+flow3 : Flows A brim (thread 3 (opened 0 ∷ opened 1 ∷ Cell.unheld ∷ []))
+unfolding computed table
+flow3 v h =
+    ⊎-elim
+    (λ e. subst (Flow brim (thread 3 (opened 0 ∷ opened 1 ∷ Cell.unheld ∷ []))) (sym e) (0, Marker.empty, refl, refl))
+    (λ e. subst (Flow brim (thread 3 (opened 0 ∷ opened 1 ∷ Cell.unheld ∷ []))) (sym e) (1, Marker.empty, refl, refl))
+    (free3 v h)
+
+flow6 : Flows A brim (thread 6 (Cell.unheld ∷ Cell.unheld ∷ opened 1 ∷ []))
+unfolding computed table
+flow6 v h =
+    subst (Flow brim (thread 6 (Cell.unheld ∷ Cell.unheld ∷ opened 1 ∷ []))) (sym (free6 v h)) (1, Marker.empty, refl, refl)
+
+brim-balances : (k : ℕ) → k < 1 → 131073 ≤ 131073
+brim-balances k h = omega arith
+
+brim-claims : (q : ℕ) → q < 2 → Z.count (λ i. eqb i (brim .claim q .agent)) (threeOfA (opened 1)) ≤ brim .claim q .most
+unfolding computed table
+brim-claims zero h = let z : 1 ≤ 1 = omega arith in z
+brim-claims (suc zero) h = let z : 2 ≤ 2 = omega arith in z
+brim-claims (suc (suc q)) h = absurd (omega arith)
+
+safe-brim : Says (Row.safe A brim (threeOfA (opened 1)))
+unfolding computed table
+safe-brim = record { flows = (flow3, (flow6, (flow6, tt))); balances = brim-balances; claims = brim-claims }
+
+unsafe-claim : Says (Row.unsafe A (limits (1 ∷ []) 131073 1) (threeOfA (opened 1)))
+unfolding computed table
+unsafe-claim s = let z : 2 ≤ 1 = s .claims 1 (omega arith) in absurd (omega (arith, z))
+
+unsafe-bound : Says (Row.unsafe A (limits (1 ∷ []) 131072 2) (threeOfA (opened 1)))
+unfolding computed table
+unsafe-bound s = let z : 131073 ≤ 131072 = s .balances 0 (omega arith) in absurd (omega (arith, z))
+
+unsafe-row : Says (Row.unsafe A (limits [] 131073 2) (threeOfA (opened 1)))
+unfolding computed table
+unsafe-row s = let f = s .flows .1 .0 2 refl in absurd (false≢true (f .3))
+
+unsafe-opening : Says (Row.unsafe A brim (threeOfA Cell.unheld))
+unfolding computed table
+unsafe-opening s = let f = s .flows .1 .1 .0 2 refl in absurd (true≢false (ap isHeld (sym (f .2))))
+
+-- ---- starts, steps, walks and endings that are none
+
+-- what two unequal things differ in: a result's refusal, the configuration that it leaves, its agents, the outs of its markers
+abbrev refusalIn : Result → ℕ
+refusalIn (stops n) = n
+refusalIn (leaves m) = 0
+
+abbrev standsIn : Array → Result → Config Marker (Cell Marker)
+standsIn a (stops n) = []
+standsIn a (leaves m) = standsFor a m
+
+abbrev agentsIn : Config Marker (Cell Marker) → List ℕ
+agentsIn [] = []
+agentsIn (t ∷ ts) = t .agent ∷ agentsIn ts
+
+abbrev outOf : Marker → ℕ
+outOf Marker.empty = 0
+outOf (Marker.node r o m n) = o
+
+abbrev outsIn : Config Marker (Cell Marker) → List ℕ
+outsIn [] = []
+outsIn (t ∷ ts) = outOf (t .marker) ∷ outsIn ts
+
+-- the first agent; the out of the second thread's marker
+abbrev firstAgent : Config Marker (Cell Marker) → ℕ
+firstAgent c = getD (agentsIn c) 0 0
+
+abbrev secondOut : Config Marker (Cell Marker) → ℕ
+secondOut c = getD (outsIn c) 1 0
+
+start-fits : Says (Row.noStart B (lists (7 ∷ 7 ∷ 7 ∷ 7 ∷ 7 ∷ 7 ∷ []) 0 [] 0) (stops 28))
+unfolding computed
+start-fits (inl (e, h)) = let z : 2 < 2 = h in absurd (omega (arith, z))
+start-fits (inr (n, e, h)) = eqb-false 28 0 refl (ap refusalIn e)
+
+start-other : Says (Row.noStart B B₀ (leaves B₁₂))
+unfolding computed
+start-other (inl (e, h)) = eqb-false 0 28 refl (ap refusalIn e)
+start-other (inr (n, e, h)) = eqb-false 4 2 refl (ap firstAgent (ap (standsIn B) e ∙ h))
+
+step-fits-threads : Says (Row.noStep B (lists (2 ∷ 0 ∷ 1 ∷ 4 ∷ 0 ∷ 1 ∷ []) 2 (9 ∷ 9 ∷ 9 ∷ 9 ∷ []) 0) (pair 1 0) (stops 28))
+unfolding computed
+step-fits-threads (inl (e, h)) = let z : 2 < 2 = h in absurd (omega (arith, z))
+step-fits-threads (inr (inl (e, h))) = eqb-false 28 29 refl (ap refusalIn e)
+step-fits-threads (inr (inr (n, e, h))) = eqb-false 28 0 refl (ap refusalIn e)
+
+step-fits-markers : Says (Row.noStep B (lists (2 ∷ 0 ∷ 1 ∷ 4 ∷ 0 ∷ 1 ∷ []) 2 (9 ∷ 9 ∷ 9 ∷ 9 ∷ []) 0) (pair 1 0) (stops 29))
+unfolding computed
+step-fits-markers (inl (e, h)) = eqb-false 29 28 refl (ap refusalIn e)
+step-fits-markers (inr (inl (e, h))) = let z : 1 < 1 = h in absurd (omega (arith, z))
+step-fits-markers (inr (inr (n, e, h))) = eqb-false 29 0 refl (ap refusalIn e)
+
+step-not-refused : Says (Row.noStep B B₁ (pair 1 0) (stops 27))
+unfolding computed
+step-not-refused (inl (e, h)) = eqb-false 27 28 refl (ap refusalIn e)
+step-not-refused (inr (inl (e, h))) = eqb-false 27 29 refl (ap refusalIn e)
+step-not-refused (inr (inr (n, e, h))) = eqb-false 27 0 refl (ap refusalIn e)
+
+step-changes : Says (Row.noStep B B₁ (pair 1 0) (leaves B₁))
+unfolding computed
+step-changes (inl (e, h)) = eqb-false 0 28 refl (ap refusalIn e)
+step-changes (inr (inl (e, h))) = eqb-false 0 29 refl (ap refusalIn e)
+step-changes (inr (inr (n, e, h))) = eqb-false 2 4 refl (ap firstAgent (ap (standsIn B) e ∙ h))
+
+refused-not-made : Says (Row.noStep B B₁ (pair 0 1) (leaves B₁))
+unfolding computed
+refused-not-made e = eqb-false 0 25 refl (ap refusalIn e)
+
+refused-by-number : Says (Row.noStep B B₁ (pair 0 1) (stops 26))
+unfolding computed
+refused-by-number e = eqb-false 26 25 refl (ap refusalIn e)
+
+-- the attempt that a search found, and what an attempt leads to
+abbrev attemptIn : Found Attempt → Attempt
+attemptIn clear = pair 0 0
+attemptIn (hit u) = u
+
+abbrev configIn : Answer Marker (Cell Marker) → Config Marker (Cell Marker)
+configIn (S.refused n) = []
+configIn (S.next c) = c
+
+-- a walk of one step leads where the step of the first ready pair does
+walk-one : (a : Array) (c e : Config Marker (Cell Marker)) → M.Walks a (λ i. false) 1 c e
+    → configIn (S.attempt calculus a c (attemptIn (M.firstReady calculus a (λ i. false) c))) ≡ e
+walk-one a c e (u, d, f, s, h) = ap (λ (w : Attempt). configIn (S.attempt calculus a c w)) (ap attemptIn f) ∙ (ap configIn s ∙ h)
+
+walk-not-none : Says (Row.noWalk B 1 B₁ B₁)
+unfolding computed
+walk-not-none w = eqb-false 4 2 refl (ap firstAgent (walk-one B (standsFor B B₁) (standsFor B B₁) w))
+
+walk-not-two : Says (Row.noWalk B 1 B₁ B₂)
+unfolding computed
+walk-not-two w = eqb-false 2 5 refl (ap secondOut (walk-one B (standsFor B B₁) (standsFor B B₂) w))
+
+walk-of-none : Says (Row.noWalk B 0 B₁ B₁₂)
+unfolding computed
+walk-of-none e = eqb-false 2 4 refl (ap firstAgent e)
+
+walk-first-pair : Says (Row.noWalk B 1 B₃ B₄)
+unfolding computed
+walk-first-pair w = eqb-false 5 2 refl (ap firstAgent (walk-one B (standsFor B B₃) (standsFor B B₄) w))
+
+not-quiet : Says (Row.noEnd B 2 (ended Quiet 2 B₂))
+unfolding computed
+not-quiet e = clear-hit _ (sym e)
+
+not-spent-quiet : Says (Row.noEnd A 1 (ended Spent 1 A₁))
+unfolding computed
+not-spent-quiet (h, (u, e)) = clear-hit u e
+
+not-spent : Says (Row.noEnd B 3 (ended Spent 2 B₂))
+unfolding computed
+not-spent (h, e) = eqb-false 2 3 refl h
+
+not-full : Says (Row.noEnd B 3 (ended Full 1 B₁₂))
+unfolding computed
+not-full (h, (u, e, s)) =
+    let q : 0 ≡ refusalIn (M.stepIn B B₁₂ u) = ap (λ (w : Attempt). refusalIn (M.stepIn B B₁₂ w)) (ap attemptIn e) in
+    ⊎-elim (λ f. eqb-false 0 28 refl (q ∙ ap refusalIn f)) (λ f. eqb-false 0 29 refl (q ∙ ap refusalIn f)) s
+
+not-full-spent : Says (Row.noEnd B 2 (ended Full 2 B₂))
+unfolding computed
+not-full-spent (h, e) = let z : 2 < 2 = h in absurd (omega (arith, z))
+
+-- the agent of an answer
+abbrev agentIn : Option Agent → Agent
+agentIn none = record { sort = out; channel = 0; args = []; body = Proc.stop }
+agentIn (some p) = p
+
+-- ---- steps and endings that are not told
+
+tells-not-quiet : Says (Row.notTold B 1 B₁ (M.ended Quiet))
+unfolding computed
+tells-not-quiet e = clear-hit _ (sym e)
+
+tells-not-spent : Says (Row.notTold B 1 B₁ (M.ended Spent))
+unfolding computed
+tells-not-spent (h, e) = eqb-false 0 1 refl h
+
+tells-not-full : Says (Row.notTold B 1 B₁ (M.ended Full))
+unfolding computed
+tells-not-full (h, (u, e, s)) =
+    let q : 0 ≡ refusalIn (M.stepIn B B₁ u) = ap (λ (w : Attempt). refusalIn (M.stepIn B B₁ w)) (ap attemptIn e) in
+    ⊎-elim (λ f. eqb-false 0 28 refl (q ∙ ap refusalIn f)) (λ f. eqb-false 0 29 refl (q ∙ ap refusalIn f)) s
+
+tells-allowed : Says (Row.notTold B 0 B₁ (M.moved (pair 1 0) B₁₂))
+tells-allowed (h, t) = absurd (omega (arith, h))
+
+tells-first-pair : Says (Row.notTold B 1 B₃ (M.moved (pair 2 1) B₄))
+unfolding computed
+tells-first-pair (h, t) = eqb-false 0 1 refl (ap (λ (x : Found Attempt). attemptIn x .sender) (t .first))
+
+tells-changes : Says (Row.notTold B 1 B₁ (M.moved (pair 1 0) B₁))
+unfolding computed
+tells-changes (h, t) = eqb-false 4 2 refl (ap firstAgent (ap configIn (t .steps)))
+
+-- the marker of a receiver with a given sort, under which G's resource goes on
+tells-marker : Says (Row.notTold G 1 G₁ (M.moved (pair 1 0) G₂))
+unfolding computed M.markerMade
+tells-marker (h, t) =
+    let r = getD (standsFor G G₁) 1 (S.noThread calculus) in
+    let s = getD (standsFor G G₁) 0 (S.noThread calculus) in
+    let q : resource ≡ t .receiver .sort = ap (λ (x : Option Agent). agentIn x .sort) (t .acts) in
+    eqb-false 3 2 refl (ap outOf (t .marker ∙ ap (λ (y : Sort). S.markerOf calculus y r s) (sym q)))
+
+-- ---- broken rules that are not the first
+
+-- what a broken rule 4 says of what comes before it
+abbrev First4 : Array → Table → ℕ → ℕ → Type 0
+First4 a t i j =
+    Rule2 a t
+    × Rule3 a t
+    × ((l m : ℕ) → Before l m i j → l < a .size → m < a .size → PairAt a t l m (λ p q. (n : ℕ) → n < t .balances → Rule4At t l m p q n))
+
+first4 : (a : Array) (t : Table) (i j k : ℕ) (b : Broken) → FirstBroken a t b → b ≡ at 4 (i ∷ j ∷ k ∷ []) → First4 a t i j
+first4 a t i j k b (broken1 o h x y w) e = absurd (eqb-false 1 4 refl (ap (λ (d : Broken). d .rule) e))
+first4 a t i j k b (broken2 r₁ n h x w) e = absurd (eqb-false 2 4 refl (ap (λ (d : Broken). d .rule) e))
+first4 a t i j k b (broken3 r₁ r₂ x y n w) e = absurd (eqb-false 3 4 refl (ap (λ (d : Broken). d .rule) e))
+first4 a t i j k b (broken4 r₁ r₂ r₃ x y n w) e =
+    let p : x ≡ i = ap (λ (d : Broken). getD (d .place) 0 0) e in
+    let q : y ≡ j = ap (λ (d : Broken). getD (d .place) 1 0) e in
+    (r₂, r₃, λ l m h. w .earlier l m (subst (λ z. Before l m z y) (sym p) (subst (λ z. Before l m i z) (sym q) h)))
+first4 a t i j k b (broken5 r₁ r₂ r₃ r₄ c h x w) e = absurd (eqb-false 5 4 refl (ap (λ (d : Broken). d .rule) e))
+
+-- what a broken rule 5 says of its claim and of those before it
+abbrev First5 : Table → ℕ → Type 0
+First5 t c = (claimWeight t c ≤ balanceOf t c .bound) × ((m : ℕ) → m < c → Rule5At t m)
+
+first5 : (a : Array) (t : Table) (c : ℕ) (b : Broken) → FirstBroken a t b → b ≡ at 5 (c ∷ []) → First5 t c
+first5 a t c b (broken1 o h x y w) e = absurd (eqb-false 1 5 refl (ap (λ (d : Broken). d .rule) e))
+first5 a t c b (broken2 r₁ n h x w) e = absurd (eqb-false 2 5 refl (ap (λ (d : Broken). d .rule) e))
+first5 a t c b (broken3 r₁ r₂ x y n w) e = absurd (eqb-false 3 5 refl (ap (λ (d : Broken). d .rule) e))
+first5 a t c b (broken4 r₁ r₂ r₃ x y n w) e = absurd (eqb-false 4 5 refl (ap (λ (d : Broken). d .rule) e))
+first5 a t c b (broken5 r₁ r₂ r₃ r₄ d h x w) e = subst (First5 t) (ap (λ (y : Broken). getD (y .place) 0 0) e) (x, w)
+
+later-pair : Says (Row.notFirst D (tableD 9 0 1) (at 4 (2 ∷ 6 ∷ 0 ∷ [])))
+unfolding computed table
+later-pair b =
+    let p = agentIn (T.agentAt D 2) in
+    let q = agentIn (T.agentAt D 5) in
+    let live = live-Live (tableD 9 0 1) 2 5 p q refl in
+    let before : Before 2 5 2 6 = inr (refl, omega arith) in
+    let z : 1 ≤ 0 = first4 D (tableD 9 0 1) 2 6 0 _ b refl .2 2 5 before (omega arith) (omega arith) p q refl refl live 0 (omega arith) in
+    absurd (omega (arith, z))
+
+rule-2-first : Says (Row.notFirst D (tableD 1 1 2) (at 4 (2 ∷ 5 ∷ 0 ∷ [])))
+unfolding computed table
+rule-2-first b = let z : 2 ≤ 1 = first4 D (tableD 1 1 2) 2 5 0 _ b refl .0 0 (omega arith) in absurd (omega (arith, z))
+
+rule-3-first : Says (Row.notFirst A twiceBroken (at 4 (5 ∷ 3 ∷ 0 ∷ [])))
+unfolding computed table
+rule-3-first b =
+    let p = agentIn (T.agentAt A 5) in
+    let q = agentIn (T.agentAt A 3) in
+    let live = live-Live twiceBroken 5 3 p q refl in
+    absurd (false≢true (first4 A twiceBroken 5 3 0 _ b refl .1 5 3 (omega arith) (omega arith) p q refl refl live 0 (omega arith) 1 (omega arith) refl))
+
+later-claim : Says (Row.notFirst A (table rowsA 1 weightsA (claim 6 0 ∷ claim 6 0 ∷ [])) (at 5 (1 ∷ [])))
+unfolding computed table
+later-claim b =
+    let t = table rowsA 1 weightsA (claim 6 0 ∷ claim 6 0 ∷ []) in
+    let z : 1 < 1 = first5 A t 1 _ b refl .1 0 (omega arith) in absurd (omega (arith, z))
+
+kept-claim : Says (Row.notFirst A tableA (at 5 (0 ∷ [])))
+unfolding computed table
+kept-claim b = let z : 2 ≤ 1 = first5 A tableA 0 _ b refl .0 in absurd (omega (arith, z))
+
+-- ---- the rows
+
 pub cases : All Says rows
 unfolding computed table
 cases = (refl, (refl, (refl, (refl, (refl, (refl, (refl, (refl, (refl, (refl, (refl, (refl, (refl, (refl, (refl, (refl, (refl, tt)))))))))))))))))
+
+pub safe-cases : All Says safeRows
+safe-cases = (safe-brim, (unsafe-claim, (unsafe-bound, (unsafe-row, (unsafe-opening, tt)))))
+
+pub step-cases : All Says stepRows
+step-cases =
+    (start-fits, (start-other, (step-fits-threads, (step-fits-markers, (step-not-refused, (step-changes, (refused-not-made, (refused-by-number, tt))))))))
+
+pub walk-cases : All Says walkRows
+walk-cases =
+    (walk-not-none, (walk-not-two, (walk-of-none, (walk-first-pair, (not-quiet, (not-spent-quiet, (not-spent, (not-full, (not-full-spent, tt)))))))))
+
+pub told-cases : All Says toldRows
+told-cases =
+    (tells-not-quiet, (tells-not-spent, (tells-not-full, (tells-allowed, (tells-first-pair, (tells-changes, (tells-marker, tt)))))))
+
+pub later-cases : All Says laterRows
+later-cases = (later-pair, (rule-2-first, (rule-3-first, (later-claim, (kept-claim, tt)))))
 
 -- ---- demand 3 at A: its array is well formed, its table is accepted, so every configuration that A can come to is safe
 

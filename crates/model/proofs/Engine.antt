@@ -21,7 +21,9 @@ use Rattle.model.specs.Formed.{WellFormed}
 use Rattle.model.specs.Calculus.{Marker, Cell, calculus, Choices, Thread, Config, Attempt, Answer, refused, next, noThread, markerOf, stepped, attempt, start}
 use Rattle.model.specs.Numbers.{Entry, noEntry, decode, Listed, position, extend, numbers, listAfter, markersAfter, mapAnswer, CellFits, ThreadFits}
 use Rattle.model.specs.Memory.{markerIn, words, threadsIn, wordsOf, entriesIn, numbersOf, Memory, configOf, entriesOf, threadRoom, markerRoom, isResource, isOut, threadFormed}
-use Rattle.model.specs.Memory.{Result, stops, leaves, store, fitted, startIn, onAnswer, stepIn, isNext, try, firstReady, Ending, quiet, spent, full}
+use Rattle.model.specs.Memory.{Result, stops, leaves, store, fitted, startIn, onAnswer, stepIn, isNext, try, firstReady}
+use Rattle.model.specs.declared.Ending.{Ending}
+use Rattle.model.specs.declared.Ending.the-variants.{Quiet, Spent, Full}
 use Rattle.model.specs.Memory.{Walked, ends, more, onPair, onStep, walkIn, cellOf, decodeWord, standsFor, Starts, Follows, Walks, Ends}
 use Rattle.model.proofs.Nodes.{agent-at}
 use Rattle.model.proofs.Stepped.{Meet, attempt-next}
@@ -291,25 +293,48 @@ module _ (a : Array) (wf : WellFormed a) (m : Memory) (s : Sound a m) (u : Attem
           fate r (unlisted q h) = inr (inl (q, h))
           fate r (stored q h k) = inr (inr (store m d DS, q, store-stands a m d DS (step-wide d e k) h k))
 
-  -- "a step keeps it": lists that are well formed stay so
-  pub step-sound : (n : Memory) → stepIn a m u ≡ leaves n → Sound a n
+  -- a step that is made: the attempt on words, and what it stores
+  pub step-made : (n : Memory) → stepIn a m u ≡ leaves n → (d : Config ℕ ℕ) × (attempt (words ES) a CF u ≡ next d) × (store m d DS ≡ n)
+      × (length d ≤ threadRoom (a .names) (m .threads)) × (length DS ≤ markerRoom (m .markers))
   unfolding stepIn onAnswer
-  step-sound n = go (attempt (words ES) a CF u) refl
+  step-made n = go (attempt (words ES) a CF u) refl
     where
-      go : (x : Answer ℕ ℕ) → attempt (words ES) a CF u ≡ x → onAnswer a m DS x ≡ leaves n → Sound a n
+      go : (x : Answer ℕ ℕ) → attempt (words ES) a CF u ≡ x → onAnswer a m DS x ≡ leaves n
+          → (d : Config ℕ ℕ) × (attempt (words ES) a CF u ≡ next d) × (store m d DS ≡ n) × (length d ≤ threadRoom (a .names) (m .threads))
+          × (length DS ≤ markerRoom (m .markers))
       go (refused k) e l = stop-leave k n l
       go (next d) e l = fate (fitted a m d DS) (fitted-fate a m d DS) l
         where
-          fate : (r : Result) → Fate a m d DS r → r ≡ leaves n → Sound a n
+          fate : (r : Result) → Fate a m d DS r → r ≡ leaves n
+              → (d : Config ℕ ℕ) × (attempt (words ES) a CF u ≡ next d) × (store m d DS ≡ n) × (length d ≤ threadRoom (a .names) (m .threads))
+              × (length DS ≤ markerRoom (m .markers))
           fate r (crowded q h) l = stop-leave 28 n (sym q ∙ l)
           fate r (unlisted q h) l = stop-leave 29 n (sym q ∙ l)
-          fate r (stored q h k) l =
-              let z : store m d DS ≡ n = leaves-inj (sym q ∙ l) in
-              let f = few-markers k in
-              let all = made-oks d e f in
-              subst (Sound a) z
-              (store-sound a m d DS (step-wide d e k) h k (ds-listed a wf m s u) (made-kinds d e f)
-              (All-map (λ t ok. ok-formed a wf (length DS) f ES t ok) d all))
+          fate r (stored q h k) l = (d, e, leaves-inj (sym q ∙ l), h, k)
+
+  module _ (n : Memory) (r : stepIn a m u ≡ leaves n) where
+    -- "a step keeps it": lists that are well formed stay so
+    pub step-sound : Sound a n
+    step-sound =
+        let x = step-made n r in
+        let f = few-markers (x .4) in
+        let all = made-oks (x .0) (x .1) f in
+        subst (Sound a) (x .2)
+        (store-sound a m (x .0) DS (step-wide (x .0) (x .1) (x .4)) (x .3) (x .4) (ds-listed a wf m s u) (made-kinds (x .0) (x .1) f)
+        (All-map (λ t ok. ok-formed a wf (length DS) f ES t ok) (x .0) all))
+
+    pub step-entries : entriesOf n ≡ DS
+    step-entries =
+        let x = step-made n r in
+        subst (λ y. entriesOf y ≡ DS) (x .2) (stored-entries a m (x .0) DS (step-wide (x .0) (x .1) (x .4)))
+
+    -- what it leaves stands for what the calculus leaves
+    pub step-stands : attempt calculus a (standsFor a m) u ≡ next (standsFor a n)
+    unfolding mapAnswer
+    step-stands =
+        let x = step-made n r in
+        sym (decoded-attempt a wf m s u) ∙ ap (mapAnswer (decode DS) (decodeWord DS)) (x .1)
+        ∙ ap next (sym (store-stands a m (x .0) DS (step-wide (x .0) (x .1) (x .4)) (x .3) (x .4)) ∙ ap (standsFor a) (x .2))
 
 -- ---- the start
 
@@ -396,11 +421,11 @@ module _ (a : Array) (wf : WellFormed a) (ch : Choices) where
   abbrev ready : Memory → Found Attempt
   ready m = firstReady (words (entriesOf m)) a ch (configOf a m)
 
-  at-once : (k : ℕ) (m : Memory) → Sound a m → ready m ≡ clear → Told a ch k m (ends quiet m)
+  at-once : (k : ℕ) (m : Memory) → Sound a m → ready m ≡ clear → Told a ch k m (ends Quiet m)
   at-once k m s e = record { walks = refl; ending = sym (first-decoded a wf m s ch) ∙ e; sound = s }
 
   -- a ready pair whose step the lists cannot hold
-  no-room : (m : Memory) (s : Sound a m) (u : Attempt) (n : ℕ) → firstReady calculus a ch (standsFor a m) ≡ hit u → stepIn a m u ≡ stops n
+  pub no-room : (m : Memory) (s : Sound a m) (u : Attempt) (n : ℕ) → firstReady calculus a ch (standsFor a m) ≡ hit u → stepIn a m u ≡ stops n
       → (stepIn a m u ≡ stops 28) ⊎ (stepIn a m u ≡ stops 29)
   no-room m s u n e r =
       let x = found-ready a ch (standsFor a m) u e in
@@ -414,30 +439,22 @@ module _ (a : Array) (wf : WellFormed a) (ch : Choices) where
   -- one step more, made first
   one-more : (k : ℕ) (m : Memory) (s : Sound a m) (u : Attempt) (n : Memory) (w : Walked) → firstReady calculus a ch (standsFor a m) ≡ hit u
       → stepIn a m u ≡ leaves n → Told a ch k n w → Told a ch (suc k) m (more w)
-  one-more k m s u n w e r t =
-      let x = found-ready a ch (standsFor a m) u e in
-      let d : standsFor a n ≡ x .0 = go (x .0) (subst (λ y. Follows a m u y (stepIn a m u)) (x .1) (step-follows a wf m s u)) in
-      record {
-        walks = (u, x .0, e, x .1, subst (λ y. Walks a ch (w .steps) y (standsFor a (w .left))) d (t .walks));
-        ending = later (w .ending) (t .ending);
-        sound = t .sound;
-      }
+  one-more k m s u n w e r t = record {
+    walks = (u, standsFor a n, e, step-stands a wf m s u n r, t .walks);
+    ending = later (w .ending) (t .ending);
+    sound = t .sound;
+  }
     where
-      go : (d : Config Marker (Cell Marker)) → Follows a m u (next d) (stepIn a m u) → standsFor a n ≡ d
-      go d (inl p) = stop-leave 28 n (sym (p .0) ∙ r)
-      go d (inr (inl p)) = stop-leave 29 n (sym (p .0) ∙ r)
-      go d (inr (inr p)) = ap (standsFor a) (leaves-inj (sym r ∙ p .1)) ∙ p .2
-
       later : (x : Ending) → Ends a ch k w x → Ends a ch (suc k) (more w) x
-      later quiet h = h
-      later spent h = (ap suc (h .0), h .1)
-      later full h = (omega (arith, h .0), h .1)
+      later Quiet h = h
+      later Spent h = (ap suc (h .0), h .1)
+      later Full h = (omega (arith, h .0), h .1)
 
   pub walk-follows : (k : ℕ) (m : Memory) → Sound a m → Told a ch k m (walkIn a ch k m)
   unfolding walkIn onPair onStep
   walk-follows zero m s = go (ready m) refl
     where
-      go : (x : Found Attempt) → ready m ≡ x → Told a ch 0 m (onPair x (ends quiet m) (λ u. ends spent m))
+      go : (x : Found Attempt) → ready m ≡ x → Told a ch 0 m (onPair x (ends Quiet m) (λ u. ends Spent m))
       go clear e = at-once 0 m s e
       go (hit u) e = record { walks = refl; ending = (refl, (u, sym (first-decoded a wf m s ch) ∙ e)); sound = s }
   walk-follows (suc k) m s = go (ready m) refl (λ n t. walk-follows k n t)
@@ -446,11 +463,11 @@ module _ (a : Array) (wf : WellFormed a) (ch : Choices) where
       found e = sym (first-decoded a wf m s ch) ∙ e
 
       step : (u : Attempt) → ready m ≡ hit u → (r : Result) → stepIn a m u ≡ r → ((n : Memory) → Sound a n → Told a ch k n (walkIn a ch k n))
-          → Told a ch (suc k) m (onStep r (ends full m) (λ n. more (walkIn a ch k n)))
+          → Told a ch (suc k) m (onStep r (ends Full m) (λ n. more (walkIn a ch k n)))
       step u e (stops n) q ih = record { walks = refl; ending = (omega arith, (u, found e, no-room m s u n (found e) q)); sound = s }
       step u e (leaves n) q ih = one-more k m s u n (walkIn a ch k n) (found e) q (ih n (step-sound a wf m s u n q))
 
       go : (x : Found Attempt) → ready m ≡ x → ((n : Memory) → Sound a n → Told a ch k n (walkIn a ch k n))
-          → Told a ch (suc k) m (onPair x (ends quiet m) (λ u. onStep (stepIn a m u) (ends full m) (λ n. more (walkIn a ch k n))))
+          → Told a ch (suc k) m (onPair x (ends Quiet m) (λ u. onStep (stepIn a m u) (ends Full m) (λ n. more (walkIn a ch k n))))
       go clear e ih = at-once (suc k) m s e
       go (hit u) e ih = step u e (stepIn a m u) refl ih

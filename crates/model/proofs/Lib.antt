@@ -13,6 +13,7 @@ pub mod Memory
 pub mod Words
 pub mod Lent
 pub mod Engine
+pub mod Told
 pub mod Decoded
 pub mod Cases
 pub mod Bounds

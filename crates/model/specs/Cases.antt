@@ -4,13 +4,18 @@ use mathlib.Core.Path.{_≡_}
 use mathlib.Core.Bool.{Bool, true, false}
 use mathlib.Core.List.{List, [], _∷_}
 use lib.ListN.{length, getD}
-use Rattle.laws.specs.Search.{clear, hit}
+use Rattle.laws.specs.Search.{hit}
 use Rattle.laws.specs.Lists.{has}
 use Rattle.model.specs.Tree.{Array, Node, out, inp, resource}
-use Rattle.model.specs.Calculus.{Marker, Cell, Attempt, Answer, refused, next, calculus, attempt, run}
+use Rattle.model.specs.Calculus.{Marker, Cell, Thread, Config, Attempt, Answer, refused, calculus, attempt, run}
 use Rattle.model.specs.Numbers.{Entry, Lent, startLent, attemptsLent}
-use Rattle.model.specs.Memory.{Memory, Result, leaves, startIn, formed, spent, Walked, walkIn}
-use Rattle.model.specs.Rules.{Table, Claim, Verdict, held, at, verdict, check5}
+use Rattle.model.specs.declared.Ending.{Ending}
+use Rattle.model.specs.declared.Ending.the-variants.{Quiet, Spent, Full}
+use Rattle.model.specs.Memory.{Memory, Result, stops, leaves, startIn, formed, Walked, walkIn}
+use Rattle.model.specs.Memory.{standsFor, Starts, Follows, Walks, Ends, Next, moved, Tells}
+use Rattle.model.specs.Memory as M
+use Rattle.model.specs.Rules.{Table, Claim, Broken, Verdict, held, at, verdict, check5, FirstBroken}
+use Rattle.model.specs.Safe.{Safe}
 
 -- an array of listed nodes
 abbrev pub arrayOf : ℕ → List Node → Array
@@ -75,6 +80,10 @@ D =
     ∷ Node.stop
     ∷ [])
 
+-- A sender and a resource that leave nothing.
+abbrev pub G : Array
+G = arrayOf 1 (Node.new 0 1 ∷ Node.par 2 3 ∷ Node.agent out 0 [] 4 ∷ Node.agent resource 0 [] 5 ∷ Node.stop ∷ Node.stop ∷ [])
+
 -- a table of its rows, one balance (bound, weights by node) and claims on it (agent, most)
 unfoldable pub table : List (List ℕ) → ℕ → List ℕ → List Claim → Table
 table rows b ws cs = record {
@@ -123,6 +132,59 @@ B₁ = lists (2 ∷ 0 ∷ 1 ∷ 4 ∷ 0 ∷ 1 ∷ 7 ∷ 7 ∷ 7 ∷ []) 2 (9 ∷
 abbrev pub B₂ : Memory
 B₂ = lists (4 ∷ 0 ∷ 1 ∷ 5 ∷ 2 ∷ 1 ∷ 7 ∷ 7 ∷ 7 ∷ []) 2 (4 ∷ 2 ∷ 0 ∷ 0 ∷ 4 ∷ 5 ∷ 0 ∷ 1 ∷ 9 ∷ []) 2
 
+-- B after one step
+abbrev pub B₁₂ : Memory
+B₁₂ = lists (4 ∷ 0 ∷ 1 ∷ 5 ∷ 1 ∷ 1 ∷ 7 ∷ 7 ∷ 7 ∷ []) 2 (4 ∷ 2 ∷ 0 ∷ 0 ∷ 9 ∷ 9 ∷ 9 ∷ 9 ∷ 9 ∷ []) 1
+
+-- two senders of B, then its resource; and what the second sender's step leaves, which is not the first ready pair's
+abbrev pub B₃ : Memory
+B₃ = lists (2 ∷ 0 ∷ 1 ∷ 5 ∷ 0 ∷ 1 ∷ 4 ∷ 0 ∷ 1 ∷ []) 3 (9 ∷ 9 ∷ 9 ∷ 9 ∷ []) 0
+
+abbrev pub B₄ : Memory
+B₄ = lists (2 ∷ 0 ∷ 1 ∷ 4 ∷ 0 ∷ 1 ∷ 5 ∷ 1 ∷ 1 ∷ []) 3 (4 ∷ 5 ∷ 0 ∷ 0 ∷ []) 1
+
+-- A after its step
+abbrev pub A₁ : Memory
+A₁ = lists (6 ∷ 0 ∷ 0 ∷ 0 ∷ 65537 ∷ []) 1 [] 0
+
+-- G after its start; and its resource alone, with a marker that names itself as the sender
+abbrev pub G₁ : Memory
+G₁ = lists (2 ∷ 0 ∷ 1 ∷ 3 ∷ 0 ∷ 1 ∷ []) 2 (9 ∷ 9 ∷ 9 ∷ 9 ∷ []) 0
+
+abbrev pub G₂ : Memory
+G₂ = lists (3 ∷ 0 ∷ 1 ∷ 3 ∷ 0 ∷ 1 ∷ []) 1 (3 ∷ 3 ∷ 0 ∷ 0 ∷ []) 1
+
+-- the ending and the steps of a walk that left these lists
+abbrev pub ended : Ending → ℕ → Memory → Walked
+ended x n m = record { ending = x; steps = n; left = m }
+
+-- threads of A: its sender, and two of agent 6, the last with a given cell of its free name 2
+abbrev pub thread : ℕ → List (Cell Marker) → Thread Marker (Cell Marker)
+thread i cells = record { agent = i; marker = Marker.empty; env = cells }
+
+abbrev pub opened : ℕ → Cell Marker
+opened o = Cell.holds o Marker.empty
+
+abbrev pub threeOfA : Cell Marker → Config Marker (Cell Marker)
+threeOfA last =
+    thread 3 (opened 0 ∷ opened 1 ∷ Cell.unheld ∷ [])
+    ∷ thread 6 (Cell.unheld ∷ Cell.unheld ∷ opened 1 ∷ [])
+    ∷ thread 6 (Cell.unheld ∷ Cell.unheld ∷ last ∷ [])
+    ∷ []
+
+-- a table that these threads fill: row 2, a bound for w3 = 3 and w6 = 65,535, and the most of 6
+abbrev pub limits : List ℕ → ℕ → ℕ → Table
+limits row2 bound most =
+    table ((0 ∷ []) ∷ (1 ∷ []) ∷ row2 ∷ []) bound (0 ∷ 0 ∷ 0 ∷ 3 ∷ 0 ∷ 0 ∷ 65535 ∷ 0 ∷ []) (claim 3 1 ∷ claim 6 most ∷ [])
+
+-- D with weights of its resource's senders 5 and 6, and of 10, which it leaves
+abbrev pub tableD : ℕ → ℕ → ℕ → Table
+tableD bound w5 w10 = table ((0 ∷ []) ∷ (1 ∷ []) ∷ []) bound (0 ∷ 0 ∷ 0 ∷ 0 ∷ 0 ∷ w5 ∷ w5 ∷ 0 ∷ 0 ∷ 0 ∷ w10 ∷ []) []
+
+-- A with row 2 empty and w6 = 2
+abbrev pub twiceBroken : Table
+twiceBroken = table ((0 ∷ []) ∷ (1 ∷ []) ∷ [] ∷ []) 1 (0 ∷ 0 ∷ 0 ∷ 0 ∷ 0 ∷ 1 ∷ 2 ∷ 0 ∷ []) []
+
 -- ---- the rows
 
 pub data Row : Type 0 where
@@ -133,6 +195,14 @@ pub data Row : Type 0 where
   wellFormed : Array → Memory → Bool → Row
   walks : Array → ℕ → Memory → Walked → Row
   tried : Array → List Attempt → Attempt → Answer Marker (Cell Marker) → Row
+  safe : Array → Table → Config Marker (Cell Marker) → Row
+  unsafe : Array → Table → Config Marker (Cell Marker) → Row
+  noStart : Array → Memory → Result → Row
+  noStep : Array → Memory → Attempt → Result → Row
+  noWalk : Array → ℕ → Memory → Memory → Row
+  noEnd : Array → ℕ → Walked → Row
+  notTold : Array → ℕ → Memory → Next → Row
+  notFirst : Array → Table → Broken → Row
 
 -- what a row says
 abbrev pub Says : Row → Type 0
@@ -143,6 +213,14 @@ Says (starts a m r) = startIn a (λ i. false) m ≡ r
 Says (wellFormed a m b) = formed a m ≡ b
 Says (walks a k m w) = walkIn a (λ i. false) k m ≡ w
 Says (tried a us u x) = attempt calculus a (run calculus a (λ i. false) us) u ≡ x
+Says (safe a t c) = Safe a t c
+Says (unsafe a t c) = Safe a t c → ⊥
+Says (noStart a m r) = Starts a (λ i. false) m r → ⊥
+Says (noStep a m u r) = Follows a m u (attempt calculus a (standsFor a m) u) r → ⊥
+Says (noWalk a n m e) = Walks a (λ i. false) n (standsFor a m) (standsFor a e) → ⊥
+Says (noEnd a k w) = Ends a (λ i. false) k w (w .ending) → ⊥
+Says (notTold a k m x) = Tells a (λ i. false) k m x → ⊥
+Says (notFirst a t b) = FirstBroken a t b → ⊥
 
 abbrev pub rows : List Row
 rows =
@@ -175,9 +253,80 @@ rows =
     -- The same in the engine's words: the start, and two steps of the walk. "B with 2 steps allowed: spent; with 0: spent after none."
     ∷ starts B B₀ (leaves B₁)
     ∷ wellFormed B B₁ true
-    ∷ walks B 2 B₁ record { ending = spent; steps = 2; left = B₂ }
+    ∷ walks B 2 B₁ record { ending = Spent; steps = 2; left = B₂ }
     ∷ wellFormed B B₂ true
-    ∷ walks B 0 B₁ record { ending = spent; steps = 0; left = B₁ }
+    ∷ walks B 0 B₁ record { ending = Spent; steps = 0; left = B₁ }
     -- Channels are not compared by name alone: a receiver and a sender on name 1 of two instances do not meet (27).
     ∷ tried D (pair 0 1 ∷ pair 0 1 ∷ []) (pair 2 3) (refused 27)
+    ∷ []
+
+-- safe, and its neighbours that are not
+abbrev pub safeRows : List Row
+safeRows =
+    -- Safe to the brim: the weights add up to the bound, 3 + 65,535 + 65,535, and as many threads are of agent 6 as its claim allows.
+    safe A (limits (1 ∷ []) 131073 2) (threeOfA (opened 1))
+    -- Not safe where one thing is less: the most of the second claim, the bound, the bit in row 2, or the opening of a free name.
+    ∷ unsafe A (limits (1 ∷ []) 131073 1) (threeOfA (opened 1))
+    ∷ unsafe A (limits (1 ∷ []) 131072 2) (threeOfA (opened 1))
+    ∷ unsafe A (limits [] 131073 2) (threeOfA (opened 1))
+    ∷ unsafe A (limits (1 ∷ []) 131073 2) (threeOfA Cell.unheld)
+    ∷ []
+
+-- what a start and a step are not
+abbrev pub stepRows : List Row
+stepRows =
+    -- A start that fits just so is not stopped by 28, nor does it leave another configuration.
+    noStart B (lists (7 ∷ 7 ∷ 7 ∷ 7 ∷ 7 ∷ 7 ∷ []) 0 [] 0) (stops 28)
+    ∷ noStart B B₀ (leaves B₁₂)
+    -- A step that fits just so is not stopped by 28 or 29, is not refused, and does not hand its lists back.
+    ∷ noStep B (lists (2 ∷ 0 ∷ 1 ∷ 4 ∷ 0 ∷ 1 ∷ []) 2 (9 ∷ 9 ∷ 9 ∷ 9 ∷ []) 0) (pair 1 0) (stops 28)
+    ∷ noStep B (lists (2 ∷ 0 ∷ 1 ∷ 4 ∷ 0 ∷ 1 ∷ []) 2 (9 ∷ 9 ∷ 9 ∷ 9 ∷ []) 0) (pair 1 0) (stops 29)
+    ∷ noStep B B₁ (pair 1 0) (stops 27)
+    ∷ noStep B B₁ (pair 1 0) (leaves B₁)
+    -- A step that the calculus refuses by 25 is not made, nor refused by another number.
+    ∷ noStep B B₁ (pair 0 1) (leaves B₁)
+    ∷ noStep B B₁ (pair 0 1) (stops 26)
+    ∷ []
+
+-- what a walk and its ending are not
+abbrev pub walkRows : List Row
+walkRows =
+    -- A walk of one step is not none and not two, and its step is that of the first ready pair.
+    noWalk B 1 B₁ B₁
+    ∷ noWalk B 1 B₁ B₂
+    ∷ noWalk B 0 B₁ B₁₂
+    ∷ noWalk B 1 B₃ B₄
+    -- Not quiet with a ready pair; not spent without one, or with a step left; not full with a marker's room, or with all steps made.
+    ∷ noEnd B 2 (ended Quiet 2 B₂)
+    ∷ noEnd A 1 (ended Spent 1 A₁)
+    ∷ noEnd B 3 (ended Spent 2 B₂)
+    ∷ noEnd B 3 (ended Full 1 B₁₂)
+    ∷ noEnd B 2 (ended Full 2 B₂)
+    ∷ []
+
+-- what a walk does not do next
+abbrev pub toldRows : List Row
+toldRows =
+    -- With a ready pair, room and a step left it is not told to be quiet, spent or full; with no step left it is not told a step.
+    notTold B 1 B₁ (M.ended Quiet)
+    ∷ notTold B 1 B₁ (M.ended Spent)
+    ∷ notTold B 1 B₁ (M.ended Full)
+    ∷ notTold B 0 B₁ (moved (pair 1 0) B₁₂)
+    -- Its step is that of the first ready pair, leaves the calculus' next configuration, and its marker stands for the calculus' marker.
+    ∷ notTold B 1 B₃ (moved (pair 2 1) B₄)
+    ∷ notTold B 1 B₁ (moved (pair 1 0) B₁)
+    ∷ notTold G 1 G₁ (moved (pair 1 0) G₂)
+    ∷ []
+
+-- broken rules and places that are not the first
+abbrev pub laterRows : List Row
+laterRows =
+    -- Rule 4 breaks at 2, 5, 0 and at 2, 6, 0: the later pair is not named.
+    notFirst D (tableD 9 0 1) (at 4 (2 ∷ 6 ∷ 0 ∷ []))
+    -- Rules 2 and 4 break, and on A rules 3 and 4: the later rule is not named.
+    ∷ notFirst D (tableD 1 1 2) (at 4 (2 ∷ 5 ∷ 0 ∷ []))
+    ∷ notFirst A twiceBroken (at 4 (5 ∷ 3 ∷ 0 ∷ []))
+    -- Two claims break rule 5: the later claim is not named, and no claim that keeps it.
+    ∷ notFirst A (table rowsA 1 weightsA (claim 6 0 ∷ claim 6 0 ∷ [])) (at 5 (1 ∷ []))
+    ∷ notFirst A tableA (at 5 (0 ∷ []))
     ∷ []

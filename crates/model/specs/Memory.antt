@@ -5,14 +5,17 @@ use mathlib.Core.Path.{_≡_}
 use mathlib.Core.Logic.{_⊎_}
 use mathlib.Core.Bool.{Bool, true, false, cond, not, _&&_}
 use mathlib.Core.List.{List, [], _∷_, _++_, map}
+use mathlib.Core.Option.{none, some}
 use lib.Dec.{eqb, leb}
 use lib.ListN.{length, getD, take, drop}
 use Rattle.laws.specs.Search.{Found, clear, hit, test, first, every}
 use Rattle.laws.specs.Lists.{put}
-use Rattle.model.specs.Tree.{Array, out, inp, resource, Node, stop, new, par, choice, agent, nodeAt, isAgent, isNew, isFree, procAt}
+use Rattle.model.specs.Tree.{Array, out, inp, resource, Node, stop, new, par, choice, agent, nodeAt, isAgent, isNew, isFree, procAt, Agent, agentAt}
 use Rattle.model.specs.Formed.{Refusal, refuse}
-use Rattle.model.specs.Calculus.{Notation, Marker, Cell, unheld, holds, calculus, Choices, Thread, Config, Attempt, Answer, refused, next, attempt, start}
+use Rattle.model.specs.Calculus.{Notation, Marker, Cell, unheld, holds, calculus, Choices, Thread, Config, Attempt, Answer, refused, next, noThread, markerOf, attempt, start}
 use Rattle.model.specs.Numbers.{Entry, noEntry, sameEntry, position, decode, mapThread, mapCell, nobody, markersAfter}
+use Rattle.model.specs.declared.Ending.{Ending}
+use Rattle.model.specs.declared.Ending.the-variants.{Quiet, Spent, Full}
 
 -- ---- words
 
@@ -76,6 +79,9 @@ pub record Memory : Type 0 where
   pub threadCount : ℕ
   pub markers : List ℕ
   pub markerCount : ℕ
+
+abbrev pub memory : List ℕ → ℕ → List ℕ → ℕ → Memory
+memory l k ml j = record { threads = l; threadCount = k; markers = ml; markerCount = j }
 
 abbrev pub configOf : Array → Memory → Config ℕ ℕ
 configOf a m = threadsIn (a .names) (m .threadCount) (m .threads)
@@ -193,9 +199,6 @@ try ch r s = record { receiver = r; sender = s; choices = ch }
 unfoldable pub firstReady : {X C : Type 0} → Notation X C → Array → Choices → Config X C → Found Attempt
 firstReady N a ch c = first (length c) λ r. first (length c) λ s. test (not (isNext (attempt N a c (try ch r s)))) (try ch r s)
 
-pub data Ending : Type 0 where
-  quiet spent full : Ending
-
 -- how a walk ended, how many steps it made, and the lists as those steps left them
 pub record Walked : Type 0 where
   pub ending : Ending
@@ -220,10 +223,45 @@ onStep (leaves m) w f = f m
 -- "Before each step: no ready pair, quiet; else the steps made equal the allowed number, spent; else a step refused by 28 or 29,
 -- full." The number is that of the steps still allowed.
 unfoldable pub walkIn : Array → Choices → ℕ → Memory → Walked
-walkIn a ch zero m = onPair (firstReady (words (entriesOf m)) a ch (configOf a m)) (ends quiet m) λ u. ends spent m
+walkIn a ch zero m = onPair (firstReady (words (entriesOf m)) a ch (configOf a m)) (ends Quiet m) λ u. ends Spent m
 walkIn a ch (suc k) m =
-    onPair (firstReady (words (entriesOf m)) a ch (configOf a m)) (ends quiet m) λ u.
-    onStep (stepIn a m u) (ends full m) λ n. more (walkIn a ch k n)
+    onPair (firstReady (words (entriesOf m)) a ch (configOf a m)) (ends Quiet m) λ u.
+    onStep (stepIn a m u) (ends Full m) λ n. more (walkIn a ch k n)
+
+-- ---- the walk, told step by step
+
+-- "the marker number of the receiver's continuation"
+unfoldable pub markerMade : Array → Memory → Attempt → ℕ
+markerMade a m u =
+    let r = getD (configOf a m) (u .receiver) nobody in
+    let s = getD (configOf a m) (u .sender) nobody in
+    elim (agentAt a (r .agent)) [ none ↦ 0 | some p ↦ markerOf (words (entriesOf m)) (p .sort) r s ]
+
+-- why a walk makes no further step, or its next step: the attempt and the lists after it
+pub data Next : Type 0 where
+  ended : Ending → Next
+  moved : Attempt → Memory → Next
+
+unfoldable pub onResult : Attempt → Result → Next
+onResult u (stops n) = ended Full
+onResult u (leaves n) = moved u n
+
+-- the step of a ready pair
+unfoldable pub turnIn : Array → Memory → Attempt → Next
+turnIn a m u = onResult u (stepIn a m u)
+
+unfoldable pub onFound : Array → ℕ → Memory → Found Attempt → Next
+onFound a k m clear = ended Quiet
+onFound a k m (hit u) = cond (eqb k 0) (ended Spent) (turnIn a m u)
+
+-- what a walk does next where k more steps are allowed
+unfoldable pub nextIn : Array → Choices → ℕ → Memory → Next
+nextIn a ch k m = onFound a k m (firstReady (words (entriesOf m)) a ch (configOf a m))
+
+-- a walk by its next step: its ending; or that step, and the walk from the lists after it with one step less allowed
+unfoldable pub resumed : Array → Choices → ℕ → Memory → Next → Walked
+resumed a ch k m (ended x) = ends x m
+resumed a ch k m (moved u n) = more (walkIn a ch (k - 1) n)
 
 -- ---- what the lists stand for: threads with marker trees, as the calculus has them
 
@@ -261,9 +299,24 @@ Walks a ch (suc n) c e =
 
 -- why a walk of at most `allowed` steps ended where it did
 abbrev pub Ends : Array → Choices → ℕ → Walked → Ending → Type 0
-Ends a ch allowed w quiet = firstReady calculus a ch (standsFor a (w .left)) ≡ clear
-Ends a ch allowed w spent = (w .steps ≡ allowed) × ((u : Attempt) × (firstReady calculus a ch (standsFor a (w .left)) ≡ hit u))
-Ends a ch allowed w full =
+Ends a ch allowed w Quiet = firstReady calculus a ch (standsFor a (w .left)) ≡ clear
+Ends a ch allowed w Spent = (w .steps ≡ allowed) × ((u : Attempt) × (firstReady calculus a ch (standsFor a (w .left)) ≡ hit u))
+Ends a ch allowed w Full =
     (w .steps < allowed)
     × ((u : Attempt) × (firstReady calculus a ch (standsFor a (w .left)) ≡ hit u)
     × ((stepIn a (w .left) u ≡ stops 28) ⊎ (stepIn a (w .left) u ≡ stops 29)))
+
+-- a step of a walk: of the calculus' first ready pair; the lists after it stand for the calculus' next configuration, and the marker
+-- told for the marker that the receiver's continuation runs under
+pub record Turned (a : Array) (ch : Choices) (m : Memory) (u : Attempt) (n : Memory) : Type 0 where
+  pub first : firstReady calculus a ch (standsFor a m) ≡ hit u
+  pub steps : attempt calculus a (standsFor a m) u ≡ next (standsFor a n)
+  pub receiver : Agent
+  pub acts : agentAt a (getD (standsFor a m) (u .receiver) (noThread calculus) .agent) ≡ some receiver
+  pub marker : decode (entriesOf n) (markerMade a m u)
+      ≡ markerOf calculus (receiver .sort) (getD (standsFor a m) (u .receiver) (noThread calculus)) (getD (standsFor a m) (u .sender) (noThread calculus))
+
+-- what a walk does next, where k more steps are allowed
+abbrev pub Tells : Array → Choices → ℕ → Memory → Next → Type 0
+Tells a ch k m (ended x) = Ends a ch k (ends x m) x
+Tells a ch k m (moved u n) = (0 < k) × Turned a ch m u n

@@ -1,10 +1,11 @@
 // The model: what a reader must believe, and the theorems over it. Definitions in specs/, in the order and the words of
-// document 01; theorems in proofs/; no code. Depends on laws alone.
+// document 01; theorems in proofs/; no code but the names of the endings. Depends on laws alone.
 //
 //   specs/Tree      the array, its process tree, free names, loads         ("The array file", "The five rules")
 //   specs/Formed    refusals 8 to 12, and what an array that passes them is ("Refusals, in checking order")
 //   specs/Calculus  markers, configurations, start, attempts, lists of attempts ("Configurations and steps", "The list in demand 3")
 //   specs/Numbers   markers by number, as lent memory holds them           ("Configurations and steps")
+//   specs/Memory    lent lists, refusals 22 and 23, start, step and walk on them ("Configurations and steps")
 //   specs/Rules     the table, live pairs, the five rules, the verdict     ("The five rules")
 //   specs/Safe      what an accepted table says of a configuration         ("The list in demand 3")
 //
@@ -12,4 +13,13 @@
 //   proofs/Closed   the root of a well-formed array has no free name
 //   proofs/Safety   demand 3
 //   proofs/Decoded  steps on marker numbers are steps of the calculus
+//   proofs/Engine   start, step and walk on lent lists are those of the calculus, and keep what refusal 23 asks
+//   proofs/Told     the walk told step by step is the walk, and each step that is told is the calculus'
 //   proofs/Cases    the marked cases of 01, by computation
+
+// Why a walk ended, by 01's names. Declared here, so that definitions, engine and answers speak of the same three.
+pub enum Ending {
+    Quiet,
+    Spent,
+    Full,
+}

@@ -202,7 +202,8 @@ pub fn first_pair(
             if pair_holds(rule, z, loads, p, rp, q, rq) {
                 continue 'sender;
             }
-            for n in 0..count {
+            // In rule 3 the last figure is an argument, in rule 4 a balance.
+            'balance: for n in 0..count {
                 if !figure_holds(
                     rule,
                     file,

@@ -4,15 +4,15 @@
 // A script is little-endian. It has the array file, the choice bytes, the words of the thread list and the 16-bit numbers of the marker list,
 // each behind its count (32 bits) and padded to 4 bytes; the two counts in use; then commands, each a number and its operands (32 bits each):
 //
-//   0 start     1 step receiver sender      2 walk allowed          3 stride
+//   0 start     1 step receiver sender      2 walk allowed          3 stride allowed left
 //   4 counts threads markers                5 word index value      6 number index value      7 print lists
 //
 // A position or a count of 4294967295 stands for the largest that a call takes. A script that does not fit, that is cut, or that has an unknown
 // command or an index past its list is a bad script; the commands before that place are followed. A file that can't be opened is one too.
 ghost use mathlib.Core.Path.{_≡_};
-ghost use Prim.Native.Nat.{_*_, _<_, _≤_};
+ghost use Prim.Native.Nat.{_<_, _≤_};
 ghost use lib.ListN.{length};
-use engine::Ending;
+use engine::Allowance;
 use engine::Turn;
 use engine::Walk;
 use handover::StartAnswer;
@@ -103,19 +103,10 @@ fn told_step(answer: StepAnswer, counts: Counts) -> Counts {
     }
 }
 
-fn print_ending(ending: Ending) {
-    match ending {
-        Ending::Quiet => io::write_all(STDOUT_FILENO, b"quiet"),
-        Ending::Spent => io::write_all(STDOUT_FILENO, b"spent"),
-        Ending::Full => io::write_all(STDOUT_FILENO, b"full"),
-    }
-    ;
-}
-
 fn print_walk(w: Walk) -> Counts {
     let ending = w.ending;
     io::write_all(STDOUT_FILENO, b"walked ");
-    print_ending(ending);
+    lines::print_ending(ending);
     lines::print_figure(w.steps as usize);
     lines::print_figure(w.threads);
     lines::print_figure(w.markers);
@@ -142,6 +133,9 @@ fn print_turn(t: Turn) -> Counts {
     lines::print_figure(t.marker as usize);
     lines::print_figure(t.threads);
     lines::print_figure(t.markers);
+    let left = t.allowance;
+    lines::print_figure(left.allowed as usize);
+    lines::print_figure(left.left as usize);
     Counts {
         threads: t.threads,
         markers: t.markers,
@@ -151,12 +145,9 @@ fn print_turn(t: Turn) -> Counts {
 fn told_stride(answer: StrideAnswer, counts: Counts) -> Counts {
     match answer {
         StrideAnswer::Made(t) => print_turn(t),
-        StrideAnswer::Quiet => {
-            io::write_all(STDOUT_FILENO, b"quiet");
-            counts
-        }
-        StrideAnswer::Full => {
-            io::write_all(STDOUT_FILENO, b"full");
+        StrideAnswer::Ended(ending, steps) => {
+            lines::print_ending(ending);
+            lines::print_figure(steps as usize);
             counts
         }
         StrideAnswer::Refused(r) => {
@@ -238,6 +229,8 @@ fn call_stride(
     threads: &mut [u32],
     markers: &mut [u16],
     counts: Counts,
+    allowed: u32,
+    left: u32,
 ) -> Counts {
     print_name(path, b" stride ");
     let answer = handover::stride(
@@ -247,6 +240,7 @@ fn call_stride(
         counts.threads,
         markers,
         counts.markers,
+        Allowance { allowed, left },
     );
     let next = told_stride(answer, counts);
     print_checks(threads, markers);
@@ -284,7 +278,16 @@ fn perform(
         0 => call_start(path, array, choices, threads, markers, counts),
         1 => call_step(path, array, choices, threads, markers, counts, x, y),
         2 => call_walk(path, array, choices, threads, markers, counts, c.x as u32),
-        3 => call_stride(path, array, choices, threads, markers, counts),
+        3 => call_stride(
+            path,
+            array,
+            choices,
+            threads,
+            markers,
+            counts,
+            c.x as u32,
+            c.y as u32,
+        ),
         4 => Counts {
             threads: x,
             markers: y,

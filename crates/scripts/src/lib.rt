@@ -131,7 +131,7 @@ pub fn command_words(op: usize) -> usize
     ensures { λ r. ⌜ (1 ≤ r) × (r ≤ 3) ⌝ }
 {
     match op {
-        1 | 4 | 5 | 6 => 3,
+        1 | 3 | 4 | 5 | 6 => 3,
         2 => 2,
         _ => 1,
     }

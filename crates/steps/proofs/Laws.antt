@@ -37,7 +37,8 @@ use Rattle.unfolds.proofs.Laws.{length-unfolded, words-unfolded}
 use Rattle.threads.specs.Threads.{remains}
 use Rattle.ready.proofs.Attempts.{attempt-made}
 use Rattle.steps.proofs.Advanced.{place}
-use Rattle.steps.specs.Steps.{memory, Pair, ReadyPair, advanced, markerMade}
+use Rattle.model.specs.Memory.{memory, markerMade}
+use Rattle.steps.specs.Steps.{Pair, ReadyPair, advanced}
 
 some-inj : {g h : Agent} → some g ≡ some h → g ≡ h
 some-inj e = cc

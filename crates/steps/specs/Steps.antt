@@ -3,13 +3,11 @@ use Prim.Native.Nat.{ℕ, _+_, _*_, _≤_, _<_}
 use mathlib.Core.Path.{_≡_}
 use mathlib.Core.Bool.{true}
 use mathlib.Core.List.{List, _++_, map}
-use mathlib.Core.Option.{none, some}
 use lib.Dec.{leb}
 use lib.ListN.{length, getD}
-use Rattle.model.specs.Tree.{Array, agentAt}
-use Rattle.model.specs.Calculus.{Config, Attempt, bind, keep, choicesOf, markerOf}
+use Rattle.model.specs.Calculus.{Config, bind, keep, choicesOf}
 use Rattle.model.specs.Numbers.{Entry, nobody}
-use Rattle.model.specs.Memory.{Memory, Result, stops, leaves, words, threadsIn, configOf, entriesOf, formed, stepIn, try}
+use Rattle.model.specs.Memory.{Memory, memory, Result, stops, leaves, threadsIn, formed, stepIn, try, markerMade}
 use Rattle.records.specs.declared.Record.{Record}
 use Rattle.records.specs.declared.Trailer.{Trailer}
 use Rattle.records.specs.Record.{recordOf, argsOf, arrayOf}
@@ -19,11 +17,6 @@ use Rattle.threads.specs.Threads.{remains}
 use Rattle.ready.specs.Ready.{meeting}
 use Rattle.steps.specs.declared.Fired.{Fired}
 use Rattle.steps.specs.declared.Fired.the-variants.{Stopped, Made}
-
--- ---- lent lists
-
-abbrev pub memory : List ℕ → ℕ → List ℕ → ℕ → Memory
-memory l k ml j = record { threads = l; threadCount = k; markers = ml; markerCount = j }
 
 -- ---- a pair
 
@@ -60,13 +53,6 @@ abbrev pub entryAt : List ℕ → ℕ → ℕ → Entry
 entryAt l at from = record { resource = getD l at 0; out = getD l from 0; left = getD l (at + 1) 0; right = getD l (from + 1) 0 }
 
 -- ---- what a call answers and leaves
-
--- "the marker number of the receiver's continuation"
-unfoldable pub markerMade : Array → Memory → Attempt → ℕ
-markerMade a m u =
-    let r = getD (configOf a m) (u .receiver) nobody in
-    let s = getD (configOf a m) (u .sender) nobody in
-    elim (agentAt a (r .agent)) [ none ↦ 0 | some p ↦ markerOf (words (entriesOf m)) (p .sort) r s ]
 
 -- a step's answer and both lists at exit are those of a result: the counts and the lists that it leaves, or its refusal and the lists
 -- as they were

@@ -1,15 +1,15 @@
 // walk: reads an array from standard input and walks it, every choice to the left, at most 100 steps, with room for 128 threads and 1,024
 // markers. Writes a line for each step (the receiver's agent, the sender's agent, the marker number of the receiver's continuation) and
-// last the ending and the steps. Thin: everything that matters is in the library.
+// last the ending and the steps. Thin: the library decides each step and the ending, and counts; this program prints what it is told.
 ghost use Prim.Native.Nat.{_≤_};
 use arrays::ArrayAnswer;
-use engine::Ending;
+use engine::Allowance;
 use engine::Turn;
 use handover::StartAnswer;
 use handover::StrideAnswer;
-use handover::WalkAnswer;
 use libc::STDIN_FILENO;
 use libc::STDOUT_FILENO;
+use model::Ending;
 use records::Refusal;
 
 fn print_refused(r: Refusal) {
@@ -24,56 +24,40 @@ fn print_turn(t: Turn) {
     io::write_all(STDOUT_FILENO, b"\n");
 }
 
-fn print_end(ending: Ending, steps: usize) {
-    match ending {
-        Ending::Quiet => io::write_all(STDOUT_FILENO, b"quiet"),
-        Ending::Spent => io::write_all(STDOUT_FILENO, b"spent"),
-        Ending::Full => io::write_all(STDOUT_FILENO, b"full"),
-    }
-    ;
-    lines::print_figure(steps);
+fn print_end(ending: Ending, steps: u32) {
+    lines::print_ending(ending);
+    lines::print_figure(steps as usize);
     io::write_all(STDOUT_FILENO, b"\n");
 }
 
-// After all the steps that are allowed: quiet without a ready pair, else spent.
-fn print_last(
-    array: &[u8],
-    choices: &[u8],
-    threads: &mut [u32],
-    used: usize,
-    markers: &mut [u16],
-    noted: usize,
-) {
-    let answer = handover::walk(array, choices, threads, used, markers, noted, 0);
-    match answer {
-        WalkAnswer::Walked(w) => {
-            let ending = w.ending;
-            print_end(ending, 100);
-        }
-        WalkAnswer::Refused(r) => print_refused(r),
-    }
-}
-
+// The walk, told step by step.
 fn print_walk(array: &[u8], choices: &[u8], threads: &mut [u32], count: usize) {
     let mut markers = [0u16; 4096];
     let mut used = count;
     let mut noted: usize = 0;
-    let mut steps: usize = 0;
-    while steps < 100 {
-        let stride = handover::stride(array, choices, threads, used, &mut markers, noted);
+    let mut allowance = Allowance::new(100);
+    loop {
+        let stride = handover::stride(
+            array,
+            choices,
+            threads,
+            used,
+            &mut markers,
+            noted,
+            allowance,
+        );
         match stride {
-            StrideAnswer::Quiet => return print_end(Ending::Quiet, steps),
-            StrideAnswer::Full => return print_end(Ending::Full, steps),
+            StrideAnswer::Ended(ending, steps) => return print_end(ending, steps),
             StrideAnswer::Refused(r) => return print_refused(r),
             StrideAnswer::Made(t) => {
                 print_turn(t);
                 used = t.threads;
                 noted = t.markers;
+                let lessened = t.allowance;
+                allowance = lessened;
             }
         }
-        steps += 1;
     }
-    print_last(array, choices, threads, used, &mut markers, noted);
 }
 
 // The start, and the walk from it.

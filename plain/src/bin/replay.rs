@@ -5,12 +5,20 @@
 //! A script is little-endian. It has the array file, the choice bytes, the
 //! words of the thread list and the numbers of the marker list, each behind
 //! its count and padded to 4 bytes; the two counts in use; then commands,
-//! each a word and its operands.
+//! each a word and its operands:
+//!
+//! 0 start; 1 step, receiver, sender; 2 walk, allowed; 3 stride, allowed,
+//! left; 4 sets both counts; 5 sets a word of the thread list, 6 a number
+//! of the marker list, by index and value; 7 writes both lists.
+//!
+//! A stride answers `made`, receiver's agent, sender's agent, marker, both
+//! counts, allowed and left after it; or the ending and the steps made. Its
+//! allowance is not kept: each stride names its own.
 
 use std::fmt::Write as _;
 use std::io::{self, Write as _};
 
-use plain::{start, step, stride, walk, Ending, Refusal, Stride};
+use plain::{start, step, stride, walk, Allowance, Ending, Refusal, Stride};
 
 const LONGEST_SCRIPT: usize = 400_000;
 const LONGEST_ARRAY: usize = 20_000;
@@ -72,6 +80,14 @@ struct Replay<'a> {
 
 fn check_number(list: impl Iterator<Item = u32>) -> u32 {
     list.fold(7, |h, x| ((u64::from(h) * 31 + u64::from(x)) % 4_294_967_296) as u32)
+}
+
+fn ending_word(ending: Ending) -> &'static str {
+    match ending {
+        Ending::Quiet => "quiet",
+        Ending::Spent => "spent",
+        Ending::Full => "full",
+    }
 }
 
 fn refused(refusal: Refusal) -> String {
@@ -141,18 +157,14 @@ impl<'a> Replay<'a> {
             Ok(walked) => {
                 self.thread_count = walked.counts.threads;
                 self.marker_count = walked.counts.markers;
-                let ending = match walked.ending {
-                    Ending::Quiet => "quiet",
-                    Ending::Spent => "spent",
-                    Ending::Full => "full",
-                };
+                let ending = ending_word(walked.ending);
                 format!("walked {ending} {} {} {}", walked.steps, walked.counts.threads, walked.counts.markers)
             }
             Err(refusal) => refused(refusal),
         }
     }
 
-    fn stride(&mut self) -> String {
+    fn stride(&mut self, allowance: Allowance) -> String {
         let answer = stride(
             self.array,
             self.choices,
@@ -160,14 +172,17 @@ impl<'a> Replay<'a> {
             self.thread_count,
             &mut self.markers,
             self.marker_count,
+            allowance,
         );
         match answer {
-            Ok(Stride::Quiet) => "quiet".to_string(),
-            Ok(Stride::Full) => "full".to_string(),
-            Ok(Stride::Made(made, counts)) => {
+            Ok(Stride::Ended(ending, steps)) => format!("{} {steps}", ending_word(ending)),
+            Ok(Stride::Made(made, counts, after)) => {
                 self.thread_count = counts.threads;
                 self.marker_count = counts.markers;
-                format!("made {} {} {} {} {}", made.receiver, made.sender, made.marker, counts.threads, counts.markers)
+                format!(
+                    "made {} {} {} {} {} {} {}",
+                    made.receiver, made.sender, made.marker, counts.threads, counts.markers, after.allowed, after.left
+                )
             }
             Err(refusal) => refused(refusal),
         }
@@ -209,7 +224,8 @@ impl<'a> Replay<'a> {
                 Ok(self.call_line("walk", &answer))
             }
             3 => {
-                let answer = self.stride();
+                let (allowed, left) = (reader.word()?, reader.word()?);
+                let answer = self.stride(Allowance { allowed, left });
                 Ok(self.call_line("stride", &answer))
             }
             4 => {

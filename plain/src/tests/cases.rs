@@ -272,24 +272,55 @@ fn b_strides() {
     let mut threads = [0; 6];
     let mut markers = [0; 8];
     let mut counts = Counts { threads: start(&b, &LEFT, &mut threads).unwrap(), markers: 0 };
+    let mut allowance = Allowance { allowed: 5, left: 5 };
     for sender in [2, 5] {
-        let made = stride(&b, &LEFT, &mut threads, counts.threads, &mut markers, counts.markers);
+        let made = stride(&b, &LEFT, &mut threads, counts.threads, &mut markers, counts.markers, allowance);
         counts.markers += 1;
         let step = Made { receiver: 4, sender, marker: counts.markers as u32 };
-        assert_eq!(made, Ok(Stride::Made(step, counts)));
+        allowance = Allowance { allowed: 5, left: allowance.left - 1 };
+        assert_eq!(made, Ok(Stride::Made(step, counts, allowance)));
     }
+    assert_eq!(threads, [4, 0, 1, 5, 2, 1]);
     assert_eq!(markers, [4, 2, 0, 0, 4, 5, 0, 1]);
-    // A third marker does not fit, and the lists stay.
-    let before = threads;
-    let third = stride(&b, &LEFT, &mut threads, 2, &mut markers, 2);
-    assert_eq!(third, Ok(Stride::Full));
-    assert_eq!(threads, before);
-    // The resource alone has no sender.
-    let alone = stride(&b, &LEFT, &mut threads, 1, &mut markers, 2);
-    assert_eq!(alone, Ok(Stride::Quiet));
-    // A count that does not fit.
-    let refused = stride(&b, &LEFT, &mut threads, 3, &mut markers, 2);
-    assert_eq!(refused.map_err(|refusal| refusal.number), Err(23));
+    let mut lent = (threads, markers);
+    let mut ask = |thread_count, left| {
+        let allowance = Allowance { allowed: 5, left };
+        stride(&b, &LEFT, &mut lent.0, thread_count, &mut lent.1, 2, allowance)
+    };
+    // A third marker does not fit.
+    assert_eq!(ask(2, 3), Ok(Stride::Ended(Ending::Full, 2)));
+    // Spent goes before full.
+    assert_eq!(ask(2, 0), Ok(Stride::Ended(Ending::Spent, 5)));
+    // The resource alone has no sender, and quiet goes before spent.
+    assert_eq!(ask(1, 3), Ok(Stride::Ended(Ending::Quiet, 2)));
+    assert_eq!(ask(1, 0), Ok(Stride::Ended(Ending::Quiet, 5)));
+    // A count that does not fit, also where nothing is left.
+    for left in [3, 0] {
+        assert_eq!(ask(3, left), Err(Refusal { number: 23, place: 0 }));
+    }
+    assert_eq!(lent, (threads, markers));
+}
+
+#[test]
+fn any_allowance_will_do_for_a_stride() {
+    let b = array_b();
+    let most = u32::MAX;
+    // Allowed and left before, left after, and the steps made if it ended.
+    let pairs = [(1, 1, 0, 0), (most, most, most - 1, 0), (most, 1, 0, most - 1), (0, 1, 0, 0), (3, most, most - 1, 0)];
+    for (allowed, left, after, steps) in pairs {
+        let mut threads = [0; 6];
+        let mut markers = [0; 4];
+        start(&b, &LEFT, &mut threads).unwrap();
+        let allowance = Allowance { allowed, left };
+        let full = stride(&b, &LEFT, &mut threads, 2, &mut [], 0, allowance);
+        assert_eq!(full, Ok(Stride::Ended(Ending::Full, steps)));
+        let quiet = stride(&b, &LEFT, &mut threads, 1, &mut [], 0, allowance);
+        assert_eq!(quiet, Ok(Stride::Ended(Ending::Quiet, steps)));
+        let made = stride(&b, &LEFT, &mut threads, 2, &mut markers, 0, allowance);
+        let step = Made { receiver: 4, sender: 2, marker: 1 };
+        let counts = Counts { threads: 2, markers: 1 };
+        assert_eq!(made, Ok(Stride::Made(step, counts, Allowance { allowed, left: after })));
+    }
 }
 
 #[test]

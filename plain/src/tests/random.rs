@@ -5,6 +5,7 @@ use std::collections::{BTreeMap, BTreeSet};
 use super::build::*;
 use crate::bytes::bit;
 use crate::calculus::{attempt, begin, safe, Configuration, Marker, Opening, Thread};
+use crate::engine::walk_telling;
 use crate::*;
 
 struct Dice(u64);
@@ -268,6 +269,52 @@ fn a_walk_is_its_steps() {
         };
         assert_eq!(walked, Walked { ending, steps, counts });
         assert_eq!((threads, markers), by_steps);
+        endings[ending as usize] += 1;
+    }
+    assert!(endings.iter().all(|count| *count > 5), "{endings:?}");
+}
+
+#[test]
+fn a_walk_is_its_strides() {
+    let mut dice = Dice(5);
+    let mut endings = [0; 3];
+    for _ in 0..300 {
+        let (file, names) = random_array(&mut dice, 60);
+        let choices = dice.choices();
+        let mut threads = vec![9; 30 * (2 + names)];
+        let mut markers = vec![9; 12 * 4];
+        let Ok(count) = start(&file, &choices, &mut threads) else {
+            continue;
+        };
+        let allowed = dice.below(20) as u32;
+        let mut lent = (threads.clone(), markers.clone());
+        let mut told = vec![];
+        let walked =
+            walk_telling(&file, &choices, &mut threads, count, &mut markers, 0, allowed, &mut |made| told.push(made));
+
+        let mut counts = Counts { threads: count, markers: 0 };
+        let mut allowance = Allowance { allowed, left: allowed };
+        let mut steps = vec![];
+        let (ending, number) = loop {
+            let before = lent.clone();
+            let answer =
+                stride(&file, &choices, &mut lent.0, counts.threads, &mut lent.1, counts.markers, allowance).unwrap();
+            match answer {
+                Stride::Made(made, after, less) => {
+                    assert_eq!(less, Allowance { allowed, left: allowance.left - 1 });
+                    (counts, allowance) = (after, less);
+                    steps.push(made);
+                }
+                Stride::Ended(ending, number) => {
+                    assert_eq!(lent, before);
+                    break (ending, number);
+                }
+            }
+        };
+        assert_eq!(walked, Ok(Walked { ending, steps: number, counts }));
+        assert_eq!(steps, told);
+        assert_eq!(number as usize, steps.len());
+        assert_eq!(lent, (threads, markers));
         endings[ending as usize] += 1;
     }
     assert!(endings.iter().all(|count| *count > 5), "{endings:?}");

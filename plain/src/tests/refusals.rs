@@ -227,7 +227,7 @@ fn refusals_of_a_start() {
     assert_eq!(start(&a, &LEFT, &mut threads), Ok(2));
 }
 
-/// Steps and walks B with a lent configuration; both must refuse it by 23.
+/// Steps, walks and strides B with a lent configuration; all must refuse it by 23.
 fn is_misformed(threads: &[u32], thread_count: usize, markers: &[u16], marker_count: usize) -> bool {
     let b = array_b();
     let mut lent = (threads.to_vec(), markers.to_vec());
@@ -236,6 +236,8 @@ fn is_misformed(threads: &[u32], thread_count: usize, markers: &[u16], marker_co
     assert!(misformed || stepped == refused(24, 0));
     let walked = walk(&b, &LEFT, &mut lent.0, thread_count, &mut lent.1, marker_count, 0);
     assert_eq!(walked == refused(23, 0), misformed);
+    let strode = stride(&b, &LEFT, &mut lent.0, thread_count, &mut lent.1, marker_count, Allowance::whole(0));
+    assert_eq!(strode == refused(23, 0), misformed);
     assert_eq!(lent, (threads.to_vec(), markers.to_vec()));
     misformed
 }
@@ -276,6 +278,9 @@ fn refusal_23() {
     let mut threads = threads;
     assert_eq!(step(&array_b(), &[0; 129], &mut threads, 9, &mut [], 0, 0, 0), refused(22, 0));
     assert_eq!(walk(&array_b(), &[], &mut threads, 9, &mut [], 0, 0), refused(22, 0));
+    let none = Allowance::whole(0);
+    assert_eq!(stride(&array_b(), &[], &mut threads, 9, &mut [], 0, none), refused(22, 0));
+    assert_eq!(stride(&array_b()[4..], &[], &mut threads, 9, &mut [], 0, none), refused(4, 0));
 }
 
 #[test]

@@ -21,7 +21,7 @@ slice-aggregate-result c =
     let s = now (c .before .before .before .before .before .before .args .file) in
     let t = c .before .before .t .given .0 .0 in
     let e : readArray s ≡ Read t = sym (c .before .before .before .before .read-array .ensures) ∙ c .before .before .t .given .1 in
-    sym (length-take-le (t .start) s (omega (arith, read-is s t e .fills)))
+    sym (length-take-le _ s (omega (arith, read-is s t e .fills)))
 
 enum-told : tie.Need-enum-told
 enum-told c = search needs

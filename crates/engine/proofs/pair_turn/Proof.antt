@@ -95,8 +95,13 @@ slice-read-wide-2 c =
 wide-requires-2 : tie.Need-wide-requires-2
 wide-requires-2 c κs = search needs
 
+spend-requires : tie.Need-spend-requires
+spend-requires c κs = c .before .before .before .before .before .before .before .before .before .before .pre .1 .1 .1
+
 fire-requires : tie.Need-fire-requires
-fire-requires c κs = search needs
+fire-requires c κs =
+    let p = c .before .before .before .before .before .before .before .before .before .before .before .before .before .pre in
+    (p .0, (p .1 .0, p .1 .1 .0))
 
 enum-known-fired : tie.Need-enum-known-fired
 enum-known-fired c = search needs
@@ -112,14 +117,12 @@ same-length-2 c = search needs
 
 returns : tie.Need-returns
 returns c =
-    let x = c .before .before .before .before .before .before .before .before .before .before .before .before .before .before .before .before .before .before .before .before .args in
-    let p = c .before .before .before .before .before .before .before .before .before .before .before .before .before .before .before .before .before .before .before .before .pre in
-    let read = p .0 .0 in
+    let x = c .before .before .before .before .before .before .before .before .before .before .before .before .before .before .before .before .before .before .before .before .before .args in
     let f = now (x .file) in
     let l = now (x .threads) in
     let ml = now (x .markers) in
     let ch = now (x .choices) in
-    turn-stopped f (x .t) ch l (x .count) ml (x .listed) (x .r) (x .s) _ _ _ _ (c .before .before .before .before .before .before .before .fire .ensures) (c .before .fired .given .1)
+    turn-stopped f (x .t) ch l (x .count) ml (x .listed) (x .r) (x .s) (x .allowance) _ _ _ _ (c .before .before .before .before .before .before .before .fire .ensures) (c .before .fired .given .1)
 
 same-length-3 : tie.Need-same-length-3
 same-length-3 c = search needs
@@ -129,17 +132,18 @@ same-length-4 c = search needs
 
 returns-2 : tie.Need-returns-2
 returns-2 c =
-    let x = c .before .before .before .before .before .before .before .before .before .before .before .before .before .before .before .before .before .before .before .before .args in
-    let p = c .before .before .before .before .before .before .before .before .before .before .before .before .before .before .before .before .before .before .before .before .pre in
-    let read = p .0 .0 in
+    let x = c .before .before .before .before .before .before .before .before .before .before .before .before .before .before .before .before .before .before .before .before .before .args in
+    let p = c .before .before .before .before .before .before .before .before .before .before .before .before .before .before .before .before .before .before .before .before .before .pre in
     let f = now (x .file) in
     let l = now (x .threads) in
     let ml = now (x .markers) in
     let ch = now (x .choices) in
-    let at-wide = c .before .before .before .before .before .before .before .before .before .before .before .before .wide .ensures .0 in
-    let at-wide2 = c .before .before .before .before .before .before .before .before .before .before .wide2 .ensures .0 in
-    turn-made f (x .t) ch l (x .count) ml (x .listed) (x .r) (x .s) _ _ _ _ _ _ (c .before .before .before .before .before .before .before .fire .ensures) (c .before .fired2 .given .1) _ _
-    at-wide at-wide2 (p .1 .0 .1) (p .1 .0 .2)
+    let at-fire = c .before .before .before .before .before .before .before .fire .ensures in
+    let at-wide = c .before .before .before .before .before .before .before .before .before .before .before .before .before .wide .ensures .0 in
+    let at-wide2 = c .before .before .before .before .before .before .before .before .before .before .before .wide2 .ensures .0 in
+    let at-spend = c .before .before .before .before .before .before .before .before .before .before .spend .ensures in
+    turn-made f (x .t) ch l (x .count) ml (x .listed) (x .r) (x .s) _ _ _ _ _ _ at-fire (c .before .fired2 .given .1) _ _ at-wide at-wide2 (p .1 .0 .1) (p .1 .0 .2)
+    (x .allowance) _ at-spend
 
 pub pair-turn-spec : {M : Type 1} → statement M
 pair-turn-spec =
@@ -154,6 +158,7 @@ pair-turn-spec =
     mul-wide-4
     slice-read-wide-2
     wide-requires-2
+    spend-requires
     fire-requires
     enum-known-fired
     enum-known-fired-2

@@ -6,7 +6,7 @@ use borrow.Author.Tests.{not-true, not-false}
 use Rattle.model.specs.Calculus.{choicesOf}
 use Rattle.model.specs.Memory.{try}
 use Rattle.records.specs.Record.{arrayOf}
-use Rattle.steps.specs.Steps.{memory}
+use Rattle.model.specs.Memory.{memory}
 use Rattle.engine.proofs.Laws.{checked-23, checked-step}
 use Rattle.engine.proofs.step.Statement.{statement}
 use Rattle.engine.proofs.step.Tie as tie

@@ -1,5 +1,6 @@
 -- The first ready pair decides: none is quiet; one with no step left is spent; else its turn.
 use mathlib.Core.Path.{refl}
+use native.Mathlib.Omega.{arith}
 use denote.Ref.{now}
 use borrow.Author.Needs.{needs}
 use Rattle.model.specs.Calculus.{choicesOf}
@@ -40,7 +41,7 @@ returns c =
     let ch = now (x .choices) in
     let at-first-ready = c .before .before .before .before .first-ready .ensures in
     let cs = choicesOf ch in (
-      stride-spent f (x .t) read l (x .count) ml (x .listed) cs (x .done) _ (at-first-ready cs) _ _ (c .before .before .found .given .1) (c .if1 .taken),
+      stride-spent f (x .t) read l (x .count) ml (x .listed) cs (x .allowance .left) _ (at-first-ready cs) _ _ (c .before .before .found .given .1) (c .if1 .taken),
       refl,
       refl,
     )
@@ -57,8 +58,8 @@ pair-turn-requires c κs =
     let cs = choicesOf ch in
     let at-first-ready = c .before .before .before .before .before .before .first-ready .ensures in
     let at-found = c .before .before .before .before .found .given .1 in
-    let b = pair-ready f (x .t) read l (x .count) ml (x .listed) cs (x .done) _ (at-first-ready cs) _ _ at-found in
-    (p .0, ((p .1, b .0, b .1), b .2))
+    let b = pair-ready f (x .t) read l (x .count) ml (x .listed) cs (x .allowance .left) _ (at-first-ready cs) _ _ at-found in
+    (p .0, ((p .1, b .0, b .1), (b .2, (let h = c .before .before .if1 .left in omega (arith, h)))))
 
 same-length-2 : tie.Need-same-length-2
 same-length-2 c = search needs
@@ -73,7 +74,7 @@ returns-2 c =
     let ml = now (x .markers) in
     let ch = now (x .choices) in
     let cs = choicesOf ch in
-    (stride-quiet f (x .t) read l (x .count) ml (x .listed) cs (x .done) _ (c .before .before .first-ready .ensures cs) (c .enum-told .given .1), refl, refl)
+    (stride-quiet f (x .t) read l (x .count) ml (x .listed) cs (x .allowance .left) _ (c .before .before .first-ready .ensures cs) (c .enum-told .given .1), refl, refl)
 
 same-length-3 : tie.Need-same-length-3
 same-length-3 c = search needs
@@ -94,7 +95,7 @@ returns-3 c =
     let at-first-ready = c .before .before .before .before .before .before .before .before .before .before .before .first-ready .ensures in
     let at-found = c .before .before .before .before .before .before .before .before .before .found .given .1 in
     let at-if1 = c .before .before .before .before .before .before .before .if1 .left in
-    let e = stride-turn f (x .t) read l (x .count) ml (x .listed) cs (x .done) _ (at-first-ready cs) _ _ at-found at-if1 in
+    let e = stride-turn f (x .t) read l (x .count) ml (x .listed) cs (x .allowance .left) _ (at-first-ready cs) _ _ at-found at-if1 in
     rw e (c .before .before .before .before .pair-turn .ensures)
 
 pub stride-formed-spec : {M : Type 1} → statement M

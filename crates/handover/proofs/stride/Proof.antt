@@ -40,7 +40,7 @@ returns c =
     let f = now (x .array) in
     let ch = now (x .choices) in
     let at-admit = c .before .before .before .admit .ensures in
-    stride-not f ch _ (not-admitted f ch _ at-admit _ (c .before .admitted .given .1)) (now (x .threads)) (x .thread-count) (now (x .markers)) (x .marker-count)
+    stride-not f ch _ (not-admitted f ch _ at-admit _ (c .before .admitted .given .1)) (now (x .threads)) (x .thread-count) (now (x .markers)) (x .marker-count) (x .allowance)
 
 same-length : tie.Need-same-length
 same-length c = search needs
@@ -57,7 +57,9 @@ returns-2 c =
     let at-admitted2 = c .before .before .before .before .before .before .before .before .before .before .before .before .admitted2 .given .1 in
     let a = admitted f ch _ at-admit _ at-admitted2 in
     let at-next-turn = c .before .before .before .before .before .before .before .before .next-turn .ensures in
-    rw (c .numbered .ensures) (stride-stopped f ch _ a (now (x .threads)) (x .thread-count) (now (x .markers)) (x .marker-count) _ _ _ at-next-turn _ (c .before .before .strode .given .1))
+    let said = c .before .before .strode .given .1 in
+    rw (c .numbered .ensures)
+    (stride-stopped f ch _ a (now (x .threads)) (x .thread-count) (now (x .markers)) (x .marker-count) (x .allowance) _ _ _ at-next-turn _ said)
 
 same-length-3 : tie.Need-same-length-3
 same-length-3 c = search needs
@@ -74,7 +76,9 @@ returns-3 c =
     let at-admitted2 = c .before .before .before .before .before .before .before .before .before .before .before .before .admitted2 .given .1 in
     let a = admitted f ch _ at-admit _ at-admitted2 in
     let at-next-turn = c .before .before .before .before .before .before .before .before .next-turn .ensures in
-    rw (c .stride-of .ensures) (stride-strode f ch _ a (now (x .threads)) (x .thread-count) (now (x .markers)) (x .marker-count) _ _ _ at-next-turn _ (c .before .before .strode2 .given .1))
+    let said = c .before .before .strode2 .given .1 in
+    rw (c .stride-of .ensures)
+    (stride-strode f ch _ a (now (x .threads)) (x .thread-count) (now (x .markers)) (x .marker-count) (x .allowance) _ _ _ at-next-turn _ said)
 
 pub stride-spec : {M : Type 1} → statement M
 stride-spec =

@@ -1,6 +1,6 @@
 -- Case by case.
 use mathlib.Core.Path.{sym, ap}
-use Rattle.handover.specs.Front.{verdictOf}
+use Rattle.handover.specs.Bodies.{verdictOf}
 use borrow.Author.Needs.{needs}
 use Rattle.handover.proofs.verdict_of.Statement.{statement}
 use Rattle.handover.proofs.verdict_of.Tie as tie

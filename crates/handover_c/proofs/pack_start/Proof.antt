@@ -4,6 +4,8 @@ use native.Mathlib.Omega.{arith}
 use borrow.Author.Needs.{needs}
 use Rattle.handover.specs.declared.StartAnswer.{StartAnswer}
 use Rattle.handover.specs.Engine.{saysStart}
+use Rattle.handover.specs.Refusals.{StartNumber}
+use Rattle.handover.proofs.Refusals.{start-few}
 use Rattle.handover_c.specs.Packed.{packedReply, FitsReply}
 use Rattle.handover_c.proofs.pack_start.Statement.{statement}
 use Rattle.handover_c.proofs.pack_start.Tie as tie
@@ -12,13 +14,17 @@ enum-known-x : tie.Need-enum-known-x
 enum-known-x c = search needs
 
 pack-counts-requires : tie.Need-pack-counts-requires
-pack-counts-requires c κs = let h = subst (λ (y : StartAnswer). FitsReply (saysStart y)) (c .before .x .given .1) (c .before .before .before .pre) in (omega arith, (h .0, omega arith))
+pack-counts-requires c κs =
+    let h = subst (λ (y : StartAnswer). FitsReply StartNumber (saysStart y)) (c .before .x .given .1) (c .before .before .before .pre) in
+    (omega arith, (h .0, omega arith))
 
 enum-known-x-2 : tie.Need-enum-known-x-2
 enum-known-x-2 c = search needs
 
 pack-refusal-requires : tie.Need-pack-refusal-requires
-pack-refusal-requires c κs = subst (λ (y : StartAnswer). FitsReply (saysStart y)) (c .before .x2 .given .1) (c .before .before .before .pre)
+pack-refusal-requires c κs =
+    let h = subst (λ (y : StartAnswer). FitsReply StartNumber (saysStart y)) (c .before .x2 .given .1) (c .before .before .before .pre) in
+    (start-few _ (h .0), h .1)
 
 returns : tie.Need-returns
 returns c = c .pack-counts .ensures ∙ ap (λ (y : StartAnswer). packedReply 0 (saysStart y)) (sym (c .before .before .x .given .1))

@@ -4,6 +4,7 @@ use native.Mathlib.Omega.{arith}
 use borrow.Author.Needs.{needs}
 use Rattle.handover.specs.declared.Verdict.{Verdict}
 use Rattle.handover.specs.Front.{says}
+use Rattle.handover.proofs.Refusals.{table-few}
 use Rattle.handover_c.specs.Packed.{packed, Fits}
 use Rattle.handover_c.proofs.pack_verdict.Statement.{statement}
 use Rattle.handover_c.proofs.pack_verdict.Tie as tie
@@ -15,37 +16,49 @@ enum-known-v-2 : tie.Need-enum-known-v-2
 enum-known-v-2 c = search needs
 
 pack-rule-requires : tie.Need-pack-rule-requires
-pack-rule-requires c κs = let h = subst (λ (y : Verdict). Fits (says y)) (c .before .v2 .given .1) (c .before .before .before .pre) in (omega arith, h .2 .0, h .2 .1, h .2 .2)
+pack-rule-requires c κs =
+    let h = subst (λ (y : Verdict). Fits (says y)) (c .before .v2 .given .1) (c .before .before .before .pre) in
+    (omega arith, h .2 .0, h .2 .1, h .2 .2)
 
 enum-known-v-3 : tie.Need-enum-known-v-3
 enum-known-v-3 c = search needs
 
 pack-rule-requires-2 : tie.Need-pack-rule-requires-2
-pack-rule-requires-2 c κs = let h = subst (λ (y : Verdict). Fits (says y)) (c .before .v3 .given .1) (c .before .before .before .pre) in (omega arith, h .2 .0, h .2 .1, h .2 .2)
+pack-rule-requires-2 c κs =
+    let h = subst (λ (y : Verdict). Fits (says y)) (c .before .v3 .given .1) (c .before .before .before .pre) in
+    (omega arith, h .2 .0, h .2 .1, h .2 .2)
 
 enum-known-v-4 : tie.Need-enum-known-v-4
 enum-known-v-4 c = search needs
 
 pack-rule-requires-3 : tie.Need-pack-rule-requires-3
-pack-rule-requires-3 c κs = let h = subst (λ (y : Verdict). Fits (says y)) (c .before .v4 .given .1) (c .before .before .before .pre) in (omega arith, h .2 .0, h .2 .1, h .2 .2)
+pack-rule-requires-3 c κs =
+    let h = subst (λ (y : Verdict). Fits (says y)) (c .before .v4 .given .1) (c .before .before .before .pre) in
+    (omega arith, h .2 .0, h .2 .1, h .2 .2)
 
 enum-known-v-5 : tie.Need-enum-known-v-5
 enum-known-v-5 c = search needs
 
 pack-rule-requires-4 : tie.Need-pack-rule-requires-4
-pack-rule-requires-4 c κs = let h = subst (λ (y : Verdict). Fits (says y)) (c .before .v5 .given .1) (c .before .before .before .pre) in (omega arith, h .2 .0, h .2 .1, h .2 .2)
+pack-rule-requires-4 c κs =
+    let h = subst (λ (y : Verdict). Fits (says y)) (c .before .v5 .given .1) (c .before .before .before .pre) in
+    (omega arith, h .2 .0, h .2 .1, h .2 .2)
 
 enum-known-v-6 : tie.Need-enum-known-v-6
 enum-known-v-6 c = search needs
 
 pack-rule-requires-5 : tie.Need-pack-rule-requires-5
-pack-rule-requires-5 c κs = let h = subst (λ (y : Verdict). Fits (says y)) (c .before .v6 .given .1) (c .before .before .before .pre) in (omega arith, h .2 .0, h .2 .1, h .2 .2)
+pack-rule-requires-5 c κs =
+    let h = subst (λ (y : Verdict). Fits (says y)) (c .before .v6 .given .1) (c .before .before .before .pre) in
+    (omega arith, h .2 .0, h .2 .1, h .2 .2)
 
 enum-known-v-7 : tie.Need-enum-known-v-7
 enum-known-v-7 c = search needs
 
 pack-refusal-requires : tie.Need-pack-refusal-requires
-pack-refusal-requires c κs = subst (λ (y : Verdict). Fits (says y)) (c .before .v7 .given .1) (c .before .before .before .pre)
+pack-refusal-requires c κs =
+    let h = subst (λ (y : Verdict). Fits (says y)) (c .before .v7 .given .1) (c .before .before .before .pre) in
+    (table-few _ (h .0), h .1)
 
 returns : tie.Need-returns
 returns c = ap (λ (y : Verdict). packed (says y)) (sym (c .before .v .given .1))

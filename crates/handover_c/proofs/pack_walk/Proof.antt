@@ -5,6 +5,8 @@ use native.Mathlib.Omega.{arith}
 use borrow.Author.Needs.{needs}
 use Rattle.handover.specs.declared.WalkAnswer.{WalkAnswer}
 use Rattle.handover.specs.Engine.{saysWalk}
+use Rattle.handover.specs.Refusals.{WalkNumber}
+use Rattle.handover.proofs.Refusals.{walk-few}
 use Rattle.handover_c.specs.Packed.{packedReply, counted, FitsReply}
 use Rattle.handover_c.proofs.pack_walk.Statement.{statement}
 use Rattle.handover_c.proofs.pack_walk.Tie as tie
@@ -17,14 +19,16 @@ ending-code-requires c κs = search needs
 
 pack-counts-requires : tie.Need-pack-counts-requires
 pack-counts-requires c κs =
-    let h = subst (λ (y : WalkAnswer). FitsReply (saysWalk y)) (c .before .before .x .given .1) (c .before .before .before .before .pre) in
+    let h = subst (λ (y : WalkAnswer). FitsReply WalkNumber (saysWalk y)) (c .before .before .x .given .1) (c .before .before .before .before .pre) in
     (omega (arith, c .ending-code .ensures .1), h .0)
 
 enum-known-x-2 : tie.Need-enum-known-x-2
 enum-known-x-2 c = search needs
 
 pack-refusal-requires : tie.Need-pack-refusal-requires
-pack-refusal-requires c κs = subst (λ (y : WalkAnswer). FitsReply (saysWalk y)) (c .before .x2 .given .1) (c .before .before .before .pre)
+pack-refusal-requires c κs =
+    let h = subst (λ (y : WalkAnswer). FitsReply WalkNumber (saysWalk y)) (c .before .x2 .given .1) (c .before .before .before .pre) in
+    (walk-few _ (h .0), h .1)
 
 returns : tie.Need-returns
 returns c =

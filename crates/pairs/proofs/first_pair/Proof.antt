@@ -10,12 +10,12 @@ use borrow.Author.Needs.{needs}
 use Rattle.pairs.proofs.first_pair.Statement.{statement}
 use Rattle.pairs.proofs.first_pair.Tie as tie
 
-abbrev Inv-loop : tie.InvT-loop
-Inv-loop rule file t table z rows loads bounds nodes answer₀ p rp count q rq n₀ answer n =
+abbrev Inv-balance : tie.InvT-balance
+Inv-balance rule file t table z rows loads bounds nodes answer₀ p rp count q rq n₀ answer n =
     AtFigure rule file t table z rows loads bounds p rp count q rq answer n
 
-abbrev μ-loop : tie.MeasureT-loop
-μ-loop rule file t table z rows loads bounds nodes answer₀ p rp count q rq n₀ answer n = count - n
+abbrev μ-balance : tie.MeasureT-balance
+μ-balance rule file t table z rows loads bounds nodes answer₀ p rp count q rq n₀ answer n = count - n
 
 abbrev Inv-sender : tie.InvT-sender
 Inv-sender rule file t table z rows loads bounds nodes answer₀ p rp count q₀ answer q =
@@ -32,39 +32,39 @@ abbrev μ-receiver : tie.MeasureT-receiver
 μ-receiver rule file t table z rows loads bounds nodes answer₀ p₀ answer p = t .nodes - p
 
 receiver-holds :
-    tie.Need-receiver-holds Inv-loop μ-loop Inv-sender μ-sender Inv-receiver μ-receiver
+    tie.Need-receiver-holds Inv-balance μ-balance Inv-sender μ-sender Inv-receiver μ-receiver
 receiver-holds c =
     begin (c .before .before .before .before .before .pre)
 
-mul-record-at : tie.Need-mul-record-at Inv-loop μ-loop Inv-sender μ-sender Inv-receiver μ-receiver
+mul-record-at : tie.Need-mul-record-at Inv-balance μ-balance Inv-sender μ-sender Inv-receiver μ-receiver
 mul-record-at c = search needs
 
-add-record-at : tie.Need-add-record-at Inv-loop μ-loop Inv-sender μ-sender Inv-receiver μ-receiver
+add-record-at : tie.Need-add-record-at Inv-balance μ-balance Inv-sender μ-sender Inv-receiver μ-receiver
 add-record-at c = search needs
 
 record-at-requires :
-    tie.Need-record-at-requires Inv-loop μ-loop Inv-sender μ-sender Inv-receiver μ-receiver
+    tie.Need-record-at-requires Inv-balance μ-balance Inv-sender μ-sender Inv-receiver μ-receiver
 record-at-requires c κs = search needs
 
 figures-requires :
-    tie.Need-figures-requires Inv-loop μ-loop Inv-sender μ-sender Inv-receiver μ-receiver
+    tie.Need-figures-requires Inv-balance μ-balance Inv-sender μ-sender Inv-receiver μ-receiver
 figures-requires c κs = search needs
 
-add-p : tie.Need-add-p Inv-loop μ-loop Inv-sender μ-sender Inv-receiver μ-receiver
+add-p : tie.Need-add-p Inv-balance μ-balance Inv-sender μ-sender Inv-receiver μ-receiver
 add-p c = search needs
 
-receiver-less : tie.Need-receiver-less Inv-loop μ-loop Inv-sender μ-sender Inv-receiver μ-receiver
+receiver-less : tie.Need-receiver-less Inv-balance μ-balance Inv-sender μ-sender Inv-receiver μ-receiver
 receiver-less c = search needs
 
 receiver-again :
-    tie.Need-receiver-again Inv-loop μ-loop Inv-sender μ-sender Inv-receiver μ-receiver
+    tie.Need-receiver-again Inv-balance μ-balance Inv-sender μ-sender Inv-receiver μ-receiver
 receiver-again c =
     nothing-row
     (c .before .before .before .before .before .receiver .inv)
     (record { below = c .before .before .before .before .receiver-test .taken; is = c .before .before .record-at .ensures })
     (sym (c .before .figures .ensures) ∙ c .if1 .taken)
 
-sender-holds : tie.Need-sender-holds Inv-loop μ-loop Inv-sender μ-sender Inv-receiver μ-receiver
+sender-holds : tie.Need-sender-holds Inv-balance μ-balance Inv-sender μ-sender Inv-receiver μ-receiver
 sender-holds c =
     row
     (c .before .before .before .before .before .receiver .inv)
@@ -73,34 +73,34 @@ sender-holds c =
     (c .if1 .left)
 
 mul-record-at-2 :
-    tie.Need-mul-record-at-2 Inv-loop μ-loop Inv-sender μ-sender Inv-receiver μ-receiver
+    tie.Need-mul-record-at-2 Inv-balance μ-balance Inv-sender μ-sender Inv-receiver μ-receiver
 mul-record-at-2 c = search needs
 
 add-record-at-2 :
-    tie.Need-add-record-at-2 Inv-loop μ-loop Inv-sender μ-sender Inv-receiver μ-receiver
+    tie.Need-add-record-at-2 Inv-balance μ-balance Inv-sender μ-sender Inv-receiver μ-receiver
 add-record-at-2 c = search needs
 
 record-at-requires-2 :
-    tie.Need-record-at-requires-2 Inv-loop μ-loop Inv-sender μ-sender Inv-receiver μ-receiver
+    tie.Need-record-at-requires-2 Inv-balance μ-balance Inv-sender μ-sender Inv-receiver μ-receiver
 record-at-requires-2 c κs = search needs
 
-live-requires : tie.Need-live-requires Inv-loop μ-loop Inv-sender μ-sender Inv-receiver μ-receiver
+live-requires : tie.Need-live-requires Inv-balance μ-balance Inv-sender μ-sender Inv-receiver μ-receiver
 live-requires c κs = search needs
 
-add-q : tie.Need-add-q Inv-loop μ-loop Inv-sender μ-sender Inv-receiver μ-receiver
+add-q : tie.Need-add-q Inv-balance μ-balance Inv-sender μ-sender Inv-receiver μ-receiver
 add-q c = search needs
 
-sender-less : tie.Need-sender-less Inv-loop μ-loop Inv-sender μ-sender Inv-receiver μ-receiver
+sender-less : tie.Need-sender-less Inv-balance μ-balance Inv-sender μ-sender Inv-receiver μ-receiver
 sender-less c = search needs
 
-sender-again : tie.Need-sender-again Inv-loop μ-loop Inv-sender μ-sender Inv-receiver μ-receiver
+sender-again : tie.Need-sender-again Inv-balance μ-balance Inv-sender μ-sender Inv-receiver μ-receiver
 sender-again c =
     skip-pair
     (c .before .before .before .before .before .sender .inv)
     (record { below = c .before .before .before .before .sender-test .taken; is = c .before .before .record-at2 .ensures })
     (sym (c .before .live .ensures) ∙ not-true _ (c .if2 .taken))
 
-pair-holds-requires : tie.Need-pair-holds-requires Inv-loop μ-loop Inv-sender μ-sender Inv-receiver μ-receiver
+pair-holds-requires : tie.Need-pair-holds-requires Inv-balance μ-balance Inv-sender μ-sender Inv-receiver μ-receiver
 pair-holds-requires c κs =
     let w = c .before .before .before .before .before .sender .inv in
     let ready = w .receiver .ready in
@@ -108,14 +108,14 @@ pair-holds-requires c κs =
     let l = c .before .before .before .before .sender-test .taken in
     (ready .manyLoads, half-pair ready (w .reads) (w .receives) (record { below = l; is = c .before .before .record-at2 .ensures }) lives)
 
-add-q-2 : tie.Need-add-q-2 Inv-loop μ-loop Inv-sender μ-sender Inv-receiver μ-receiver
+add-q-2 : tie.Need-add-q-2 Inv-balance μ-balance Inv-sender μ-sender Inv-receiver μ-receiver
 add-q-2 c = search needs
 
-sender-less-2 : tie.Need-sender-less-2 Inv-loop μ-loop Inv-sender μ-sender Inv-receiver μ-receiver
+sender-less-2 : tie.Need-sender-less-2 Inv-balance μ-balance Inv-sender μ-sender Inv-receiver μ-receiver
 sender-less-2 c = search needs
 
 sender-again-2 :
-    tie.Need-sender-again-2 Inv-loop μ-loop Inv-sender μ-sender Inv-receiver μ-receiver
+    tie.Need-sender-again-2 Inv-balance μ-balance Inv-sender μ-sender Inv-receiver μ-receiver
 sender-again-2 c =
     whole-pair
     (c .before .before .before .before .before .before .before .sender .inv)
@@ -123,69 +123,69 @@ sender-again-2 c =
     (sym (c .before .before .before .live .ensures) ∙ not-false _ (c .before .before .if2 .left))
     (sym (c .before .pair-holds .ensures) ∙ c .if3 .taken)
 
-loop-holds : tie.Need-loop-holds Inv-loop μ-loop Inv-sender μ-sender Inv-receiver μ-receiver
-loop-holds c =
+balance-holds : tie.Need-balance-holds Inv-balance μ-balance Inv-sender μ-sender Inv-receiver μ-receiver
+balance-holds c =
     pair
     (c .before .before .before .before .before .before .before .sender .inv)
     (record { below = c .before .before .before .before .before .before .sender-test .taken; is = c .before .before .before .before .record-at2 .ensures })
     (sym (c .before .before .before .live .ensures) ∙ not-false _ (c .before .before .if2 .left))
 
 figure-holds-requires :
-    tie.Need-figure-holds-requires Inv-loop μ-loop Inv-sender μ-sender Inv-receiver μ-receiver
+    tie.Need-figure-holds-requires Inv-balance μ-balance Inv-sender μ-sender Inv-receiver μ-receiver
 figure-holds-requires c κs =
-    let i = c .before .loop .inv in
+    let i = c .before .balance .inv in
     let w = i .sender in
-    (w .receiver .ready, ((w .reads, i .reads, w .receives, rw (← w .many) (c .loop-test .taken)), i .lives))
+    (w .receiver .ready, ((w .reads, i .reads, w .receives, rw (← w .many) (c .balance-test .taken)), i .lives))
 
-add-n : tie.Need-add-n Inv-loop μ-loop Inv-sender μ-sender Inv-receiver μ-receiver
+add-n : tie.Need-add-n Inv-balance μ-balance Inv-sender μ-sender Inv-receiver μ-receiver
 add-n c = search needs
 
-loop-less : tie.Need-loop-less Inv-loop μ-loop Inv-sender μ-sender Inv-receiver μ-receiver
-loop-less c = search needs
+balance-less : tie.Need-balance-less Inv-balance μ-balance Inv-sender μ-sender Inv-receiver μ-receiver
+balance-less c = search needs
 
-loop-again : tie.Need-loop-again Inv-loop μ-loop Inv-sender μ-sender Inv-receiver μ-receiver
-loop-again c =
-    pass (c .before .before .before .loop .inv) (c .before .before .loop-test .taken) (sym (c .before .figure-holds .ensures) ∙ not-false _ (c .if4 .left))
+balance-again : tie.Need-balance-again Inv-balance μ-balance Inv-sender μ-sender Inv-receiver μ-receiver
+balance-again c =
+    pass (c .before .before .before .balance .inv) (c .before .before .balance-test .taken) (sym (c .before .figure-holds .ensures) ∙ not-false _ (c .if4 .left))
 
-add-q-3 : tie.Need-add-q-3 Inv-loop μ-loop Inv-sender μ-sender Inv-receiver μ-receiver
+add-q-3 : tie.Need-add-q-3 Inv-balance μ-balance Inv-sender μ-sender Inv-receiver μ-receiver
 add-q-3 c = search needs
 
-sender-less-3 : tie.Need-sender-less-3 Inv-loop μ-loop Inv-sender μ-sender Inv-receiver μ-receiver
+sender-less-3 : tie.Need-sender-less-3 Inv-balance μ-balance Inv-sender μ-sender Inv-receiver μ-receiver
 sender-less-3 c = search needs
 
 sender-again-3 :
-    tie.Need-sender-again-3 Inv-loop μ-loop Inv-sender μ-sender Inv-receiver μ-receiver
+    tie.Need-sender-again-3 Inv-balance μ-balance Inv-sender μ-sender Inv-receiver μ-receiver
 sender-again-3 c =
-    next-pair (c .before .loop .inv) (omega arith)
+    next-pair (c .before .balance .inv) (omega arith)
 
-add-p-2 : tie.Need-add-p-2 Inv-loop μ-loop Inv-sender μ-sender Inv-receiver μ-receiver
+add-p-2 : tie.Need-add-p-2 Inv-balance μ-balance Inv-sender μ-sender Inv-receiver μ-receiver
 add-p-2 c = search needs
 
 receiver-less-2 :
-    tie.Need-receiver-less-2 Inv-loop μ-loop Inv-sender μ-sender Inv-receiver μ-receiver
+    tie.Need-receiver-less-2 Inv-balance μ-balance Inv-sender μ-sender Inv-receiver μ-receiver
 receiver-less-2 c = search needs
 
 receiver-again-2 :
-    tie.Need-receiver-again-2 Inv-loop μ-loop Inv-sender μ-sender Inv-receiver μ-receiver
+    tie.Need-receiver-again-2 Inv-balance μ-balance Inv-sender μ-sender Inv-receiver μ-receiver
 receiver-again-2 c =
     next-row (c .before .sender .inv) (omega arith)
 
-returns : tie.Need-returns Inv-loop μ-loop Inv-sender μ-sender Inv-receiver μ-receiver
+returns : tie.Need-returns Inv-balance μ-balance Inv-sender μ-sender Inv-receiver μ-receiver
 returns c =
     (nowhere (c .before .receiver .inv) (omega arith), subst SmallFigure (sym (c .before .receiver .inv .none)) tt)
 
-returns-2 : tie.Need-returns-2 Inv-loop μ-loop Inv-sender μ-sender Inv-receiver μ-receiver
+returns-2 : tie.Need-returns-2 Inv-balance μ-balance Inv-sender μ-sender Inv-receiver μ-receiver
 returns-2 c =
-    let l = c .before .before .before .loop .inv in
-    let k = c .before .before .loop-test .taken in
+    let l = c .before .before .before .balance .inv in
+    let k = c .before .before .balance-test .taken in
     (found l k (sym (c .before .figure-holds .ensures) ∙ not-true _ (c .if4 .taken)), small-figure l k)
 
 pub first-pair-spec : {M : Type 1} → statement M
 first-pair-spec =
     tie.close
     (tie.spec
-    Inv-loop
-    μ-loop
+    Inv-balance
+    μ-balance
     Inv-sender
     μ-sender
     Inv-receiver
@@ -210,11 +210,11 @@ first-pair-spec =
     add-q-2
     sender-less-2
     sender-again-2
-    loop-holds
+    balance-holds
     figure-holds-requires
     add-n
-    loop-less
-    loop-again
+    balance-less
+    balance-again
     add-q-3
     sender-less-3
     sender-again-3

@@ -1,0 +1,21 @@
+-- The numbers that each entry may refuse by (01, "Refusals, in checking order"): "Table calls use 1 to 21, start 1 to 12, 22, 28, step 1
+-- to 12 and 22 to 29, walk 1 to 12, 22, 23." The walk told step by step refuses as the walk does.
+use Prim.Native.Nat.{ℕ, _≤_}
+use mathlib.Core.Path.{_≡_}
+use mathlib.Core.Logic.{_⊎_}
+
+-- "The array is checked before anything else in every call."
+abbrev pub ArrayNumber : ℕ → Type 0
+ArrayNumber n = (1 ≤ n) × (n ≤ 12)
+
+abbrev pub TableNumber : ℕ → Type 0
+TableNumber n = (1 ≤ n) × (n ≤ 21)
+
+abbrev pub StartNumber : ℕ → Type 0
+StartNumber n = ArrayNumber n ⊎ ((n ≡ 22) ⊎ (n ≡ 28))
+
+abbrev pub StepNumber : ℕ → Type 0
+StepNumber n = ArrayNumber n ⊎ ((22 ≤ n) × (n ≤ 29))
+
+abbrev pub WalkNumber : ℕ → Type 0
+WalkNumber n = ArrayNumber n ⊎ ((n ≡ 22) ⊎ (n ≡ 23))
