@@ -1,5 +1,5 @@
 #!/usr/bin/env python3
-"""Writes crates/replay/{data,args,stdout}: scripts of calls of the step engine and what it must answer.
+"""Writes crates/calls/{data,args,stdout}: scripts of calls of the step engine and what it must answer.
 
 Each call's answer, and the words that it leaves, are written here by hand from document 01 ("Refusals, in checking order",
 "Configurations and steps"): the threads after the call, and the marker entries it appended. Only the two check numbers at the end of a line are
@@ -528,7 +528,7 @@ SCRIPTS += [
 
 
 def main():
-    folder = os.path.join("crates", "replay")
+    folder = os.path.join("crates", "calls")
     data = os.path.join(folder, "data")
     shutil.rmtree(data, ignore_errors=True)
     os.makedirs(data)

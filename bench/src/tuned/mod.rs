@@ -1,6 +1,6 @@
 //! The checker and the engine written for speed alone: unchecked indexing, raw pointers, nothing allocated unless
 //! an array is refused.
-//! Arguments and answers are those of `include/handover.h`.
+//! Arguments and answers are those of `include/handover.h`. It keeps to what the base has: later requests are timed beside plain alone.
 
 mod array;
 mod engine;

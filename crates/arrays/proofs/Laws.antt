@@ -1,7 +1,7 @@
 -- What later crates may take from a file that was read, and nothing else: the trailer fits the file, each record has the shape of its
 -- kind, and the array that the bytes stand for is well formed. From `formed` the model's laws give the rest: children above parents
--- and below M (Tree.child-above), one parent for each node but 0 (Reach.parent, Reach.one-parent), names below N (Tree.names-below),
--- one binder for each name (Reach.binder, Reach.one-binder), uses within reach (Closed.use-reach), no free name at the root (Closed.closed).
+-- and below M (Tree.child-above), one parent for each node but 0 (Reach.parent, Reach.one-parent), each node once in a tree (Bounds.once),
+-- names below N (Tree.names-below), uses within reach (Closed.use-reach), no free name at the root (Closed.closed).
 use Prim.Native.Nat.{ℕ, _+_, _*_, _≤_, _<_}
 use mathlib.Core.Path.{_≡_, refl, sym, ap, ap₂, _∙_, subst}
 use mathlib.Core.Bool.{true, _&&_}
@@ -98,7 +98,7 @@ module _ (s : List ℕ) (passed : arrayRefusal s ≡ clear) where
 pub read-is : (s : List ℕ) (t : Trailer) → readArray s ≡ Read t → IsRead s t
 read-is s t e = let a = read-passes s t e in subst (IsRead s) (a .1) (passed-read s (a .0))
 
--- a record of a file that was read has a kind up to 6 and an arity up to 8, and only agents have one
+-- a record of a file that was read has an arity up to 8
 module _ (s : List ℕ) (t : Trailer) (r : IsRead s t) (i : ℕ) (h : i < t .nodes) where
   shape : shapeFits (recordOf s t i) ≡ true
   unfolding refusal6
@@ -109,9 +109,6 @@ module _ (s : List ℕ) (t : Trailer) (r : IsRead s t) (i : ℕ) (h : i < t .nod
 
   abbrev n : ℕ
   n = recordOf s t i .arity
-
-  pub kind-small : recordOf s t i .kind ≤ 6
-  kind-small = leb-true _ _ (and-split (leb k 6) _ (and-split (leb k 6 && leb n 8) _ shape .0) .0)
 
   pub arity-small : recordOf s t i .arity ≤ 8
   arity-small = leb-true _ _ (and-split (leb k 6) _ (and-split (leb k 6 && leb n 8) _ shape .0) .1)

@@ -1,7 +1,7 @@
 -- The array file: its trailer, refusals 1 to 12 in checking order, and the reader's answers (01, "The array file", "Refusals").
 use Prim.Native.Nat.{ℕ, _+_, _*_, _-_, _/_, _%_, _≤_}
 use mathlib.Core.Path.{_≡_}
-use mathlib.Core.Bool.{Bool, _&&_}
+use mathlib.Core.Bool.{Bool, cond, _&&_}
 use mathlib.Core.List.{List, []}
 use lib.Dec.{eqb, leb}
 use lib.ListN.{length, take}
@@ -15,6 +15,14 @@ use Rattle.fields.specs.Fields.{refusal6, refusal7}
 use Rattle.arrays.specs.declared.ArrayAnswer.{ArrayAnswer}
 use Rattle.arrays.specs.declared.ArrayAnswer.the-variants.{Read, Refused}
 
+-- the letters P, I, S, 1 as one number
+abbrev pub pis1 : ℕ
+pis1 = 80 + 256 * 73 + 65536 * 83 + 16777216 * 49
+
+-- the format that the letters name; 0 stands for none
+abbrev pub formOf : ℕ → ℕ
+formOf letters = cond (eqb letters pis1) 1 0
+
 -- "a 16-byte trailer that points back: start of the records (32 bits), M (16), N (16), word sum (32), the letters `PIS1`"
 abbrev pub trailerOf : List ℕ → Trailer
 trailerOf s = record {
@@ -22,11 +30,8 @@ trailerOf s = record {
   nodes = u16At s (length s - 12);
   names = u16At s (length s - 10);
   sum = u32At s (length s - 8);
+  form = formOf (u32At s (length s - 4));
 }
-
--- the letters P, I, S, 1 as one number
-abbrev pub pis1 : ℕ
-pis1 = 80 + 256 * 73 + 65536 * 83 + 16777216 * 49
 
 -- "1. The array file is shorter than 16 bytes, longer than 17,424, or no multiple of 4."
 abbrev pub lengthFits : List ℕ → Bool
@@ -36,8 +41,8 @@ abbrev pub refusal1 : List ℕ → Found F.Refusal
 refusal1 s = refuse 1 0 (lengthFits s)
 
 -- "2. Its letters are wrong."
-abbrev pub refusal2 : List ℕ → Found F.Refusal
-refusal2 s = refuse 2 0 (eqb (u32At s (length s - 4)) pis1)
+abbrev pub refusal2 : Trailer → Found F.Refusal
+refusal2 t = refuse 2 0 (eqb (t .form) 1)
 
 -- "3. M is 0 or above 1,024, or N is above 256."
 abbrev pub countsFit : Trailer → Bool
@@ -62,7 +67,7 @@ abbrev pub arrayRefusal : List ℕ → Found F.Refusal
 arrayRefusal s =
     let t = trailerOf s in
     andThen (refusal1 s)
-    (andThen (refusal2 s)
+    (andThen (refusal2 t)
     (andThen (refusal3 t)
     (andThen (refusal4 s t)
     (andThen (refusal5 s t)
@@ -116,4 +121,4 @@ abbrev pub from4 : List ℕ → Trailer → Found F.Refusal
 from4 s t = andThen (refusal4 s t) (andThen (refusal5 s t) (from6 s t))
 
 abbrev pub from2 : List ℕ → Trailer → Found F.Refusal
-from2 s t = andThen (refusal2 s) (andThen (refusal3 t) (from4 s t))
+from2 s t = andThen (refusal2 t) (andThen (refusal3 t) (from4 s t))

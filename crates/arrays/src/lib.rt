@@ -6,8 +6,8 @@ ghost use Prim.Native.Nat.{_+_, _*_, _<_, _≤_};
 ghost use lib.ListN.{length};
 ghost use Rattle.laws.specs.Search.{clear};
 ghost use Rattle.model.specs.Formed.{refusal8, refusal9};
-ghost use Rattle.records.specs.Record.{arrayOf, foundOf};
-ghost use Rattle.arrays.specs.File.{trailerOf, from2, from4, from6, from8, from10, readArray, remarkOf};
+ghost use Rattle.records.specs.Record.{arrayOf, foundOf, RecordsFit};
+ghost use Rattle.arrays.specs.File.{formOf, trailerOf, from2, from4, from6, from8, from10, readArray, remarkOf};
 use records::Check;
 use records::Refusal;
 use records::Trailer;
@@ -17,6 +17,16 @@ pub enum ArrayAnswer {
     Refused(Refusal),
 }
 
+// The format that the letters name: 1 for `PIS1`, 0 for none.
+fn form_of(letters: u32) -> usize
+    ensures { λ n. ⌜ n ≡ formOf letters ⌝ }
+{
+    if letters == 827541840 {
+        return 1;
+    }
+    0
+}
+
 // What the last 16 bytes say.
 fn read_trailer(file: &[u8]) -> Trailer
     requires { ⌜ 16 ≤ length (now file) ⌝ }
@@ -24,16 +34,17 @@ fn read_trailer(file: &[u8]) -> Trailer
 {
     let len = file.len();
     Trailer {
-        start: wire::wide(wire::u32_at(file, len - 16)),
+        start: wire::word_index(wire::u32_at(file, len - 16)),
         nodes: wire::u16_at(file, len - 12),
         names: wire::u16_at(file, len - 10),
         sum: wire::u32_at(file, len - 8),
+        form: form_of(wire::u32_at(file, len - 4)),
     }
 }
 
 // Refusals 10 to 12.
 fn check_names(file: &[u8], t: Trailer) -> Check
-    requires { ⌜ (t .start + 16 * t .nodes ≤ length (now file)) × (t .nodes ≤ 1024) ⌝ }
+    requires { ⌜ RecordsFit (now file) t × (t .nodes ≤ 1024) ⌝ }
     requires { ⌜ t .names ≤ 256 ⌝ }
     requires { ⌜ (refusal8 (arrayOf (now file) t) ≡ clear) × (refusal9 (arrayOf (now file) t) ≡ clear) ⌝ }
     ensures { λ r. ⌜ foundOf r ≡ from10 (now (file .entry)) t ⌝ }
@@ -49,7 +60,7 @@ fn check_names(file: &[u8], t: Trailer) -> Check
 
 // Refusals 8 to 12.
 fn check_tree(file: &[u8], t: Trailer) -> Check
-    requires { ⌜ (t .start + 16 * t .nodes ≤ length (now file)) × (t .nodes ≤ 1024) ⌝ }
+    requires { ⌜ RecordsFit (now file) t × (t .nodes ≤ 1024) ⌝ }
     requires { ⌜ t .names ≤ 256 ⌝ }
     ensures { λ r. ⌜ foundOf r ≡ from8 (now (file .entry)) t ⌝ }
 {
@@ -64,7 +75,7 @@ fn check_tree(file: &[u8], t: Trailer) -> Check
 
 // Refusals 6 to 12.
 fn check_records(file: &[u8], t: Trailer) -> Check
-    requires { ⌜ (t .start + 16 * t .nodes ≤ length (now file)) × (t .nodes ≤ 1024) ⌝ }
+    requires { ⌜ RecordsFit (now file) t × (t .nodes ≤ 1024) ⌝ }
     requires { ⌜ t .names ≤ 256 ⌝ }
     ensures { λ r. ⌜ foundOf r ≡ from6 (now (file .entry)) t ⌝ }
 {
@@ -97,8 +108,7 @@ fn check_letters(file: &[u8], t: Trailer) -> Check
     requires { ⌜ (16 ≤ length (now file)) × (t .start < 4294967296) ⌝ }
     ensures { λ r. ⌜ foundOf r ≡ from2 (now (file .entry)) t ⌝ }
 {
-    let len = file.len();
-    if wire::u32_at(file, len - 4) != 827541840 {
+    if t.form != 1 {
         return records::refused(2);
     }
     if !((1 <= t.nodes) & (t.nodes <= 1024) & (t.names <= 256)) {

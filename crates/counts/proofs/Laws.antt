@@ -4,22 +4,24 @@ use native.Mathlib.Nat.{add-zero}
 use native.Mathlib.Omega.{arith}
 use mathlib.Core.Path.{_≡_, refl, sym, ap, _∙_}
 use mathlib.Core.Logic.{⊎-elim}
-use mathlib.Core.Bool.{Bool, true, false, cond, _&&_, _||_}
+use mathlib.Core.Bool.{Bool, true, false, cond, not, _&&_, _||_}
 use mathlib.Core.List.{List, []}
-use lib.Dec.{eqb, leb, ltb, eqb·suc-zero}
+use lib.Dec.{eqb, ltb, eqb·suc-zero}
 use lib.ListN.{length, getD, set, drop, replicate, length-take, length-replicate, getD-replicate, List·getD-eq-default}
 use lib.Seq.{getD-set-same, getD-set-other}
-use borrow.Author.Tests.{eqb-true, eqb-false, ltb-true, ltb-false, ne-eqb, lt-ltb, le-ltb, le-leb}
+use borrow.Author.Tests.{eqb-true, eqb-false, ltb-true, ltb-false, ne-eqb, le-ltb}
 use Rattle.laws.specs.Search.{sum}
 use Rattle.laws.specs.Lists.{one, times}
 use Rattle.laws.proofs.Search.{decided, sum-zero, sum-step, sum-bound, sum-same}
 use Rattle.laws.proofs.Lists.{one-le, times-le, times-take}
-use Rattle.model.specs.Tree.{Node, nodeAt}
+use Rattle.model.specs.Tree.{Sort, out, inp, resource, Node, nodeAt, receives}
 use Rattle.model.specs.Formed.{children, params, binds}
 use Rattle.records.specs.declared.Record.{Record}
 use Rattle.records.specs.declared.Trailer.{Trailer}
-use Rattle.records.specs.Record.{recordAt, recordOf, argsOf, nodeOf, arrayOf}
-use Rattle.records.proofs.Laws.{by-kind, kind-above, node-of}
+use Rattle.records.specs.Record.{recordAt, recordOf, argsOf, sortOf, nodeOf, arrayOf}
+use Rattle.records.proofs.Laws.{node-of}
+use Rattle.records.proofs.KindLaws.{by-node}
+use Rattle.records.specs.Kinds.{isStop, isNewNode, isPar, isChoice, isReceiver}
 use Rattle.counts.specs.Counts.{Grown, Below, paramsOf}
 
 -- general
@@ -78,31 +80,32 @@ module _ (r : Record) where
   pub times-children :
       (v : ℕ)
       → times (children (nodeOf r)) v
-      ≡ one (ltb 0 (r .kind) && eqb v (r .left)) + one ((eqb (r .kind) 2 || eqb (r .kind) 3) && eqb v (r .right))
-  unfolding times children one
+      ≡ one (not (isStop (nodeOf r)) && eqb v (r .left)) + one ((isPar (nodeOf r) || isChoice (nodeOf r)) && eqb v (r .right))
+  unfolding times children one isStop isPar isChoice
   times-children v =
-      by-kind r
-      (λ k node. times (children node) v ≡ one (ltb 0 k && eqb v (r .left)) + one ((eqb k 2 || eqb k 3) && eqb v (r .right)))
-      refl refl (omega arith) (omega arith) refl refl
-      (λ k h. rw (lt-ltb 0 k (omega arith), kind-above k 2 h (omega arith), kind-above k 3 h (omega arith)))
+      by-node r (λ n. times (children n) v ≡ one (not (isStop n) && eqb v (r .left)) + one ((isPar n || isChoice n) && eqb v (r .right)))
+      refl refl (omega arith) (omega arith) refl
 
-  pub times-binds : (v : ℕ) → times (binds (nodeOf r)) v ≡ one (eqb (r .kind) 1 && eqb v (r .name)) + times (paramsOf r) v
-  unfolding times binds params one
+  pub times-binds : (v : ℕ) → times (binds (nodeOf r)) v ≡ one (isNewNode (nodeOf r) && eqb v (r .name)) + times (paramsOf r) v
+  unfolding times binds params one isNewNode isReceiver receives
   times-binds v =
-      by-kind r
-      (λ k node. times (binds node) v ≡ one (eqb k 1 && eqb v (r .name)) + times (cond (leb 5 k) (argsOf r) []) v)
-      refl refl refl refl refl (omega arith)
-      (λ k h. rw (kind-above k 1 h (omega arith), le-leb 5 k (omega arith)) (omega arith))
+      by-node r (λ n. times (binds n) v ≡ one (isNewNode n && eqb v (r .name)) + times (cond (isReceiver n) (argsOf r) []) v)
+      refl refl refl refl (go (sortOf r))
+    where
+      go : (s : Sort) → times (params s (argsOf r)) v ≡ 0 + times (cond (receives s) (argsOf r) []) v
+      go out = refl
+      go inp = omega arith
+      go resource = omega arith
 
   pub children-le : (v : ℕ) → times (children (nodeOf r)) v ≤ 2
   children-le v =
-      let left = one-le (ltb 0 (r .kind) && eqb v (r .left)) in
-      let right = one-le ((eqb (r .kind) 2 || eqb (r .kind) 3) && eqb v (r .right)) in
+      let left = one-le (not (isStop (nodeOf r)) && eqb v (r .left)) in
+      let right = one-le ((isPar (nodeOf r) || isChoice (nodeOf r)) && eqb v (r .right)) in
       omega (arith, times-children v)
 
   pub binds-le : length (r .args) ≤ 8 → (v : ℕ) → times (binds (nodeOf r)) v ≤ 9
   unfolding times
-  binds-le h v = omega (arith, times-binds v, one-le (eqb (r .kind) 1 && eqb v (r .name)), go (leb 5 (r .kind)))
+  binds-le h v = omega (arith, times-binds v, one-le (isNewNode (nodeOf r) && eqb v (r .name)), go (isReceiver (nodeOf r)))
     where
       go : (b : Bool) → times (cond b (argsOf r) []) v ≤ 8
       go true = omega (arith, times-le (argsOf r) v, length-take (r .arity) (r .args))
@@ -110,14 +113,14 @@ module _ (r : Record) where
 
   -- what argument byte k adds to entry v
   abbrev pub paramAt : ℕ → ℕ → ℕ
-  paramAt k v = one ((leb 5 (r .kind) && ltb k (r .arity)) && eqb v (getD (r .args) k 0))
+  paramAt k v = one ((isReceiver (nodeOf r) && ltb k (r .arity)) && eqb v (getD (r .args) k 0))
 
   pub times-params : length (r .args) ≡ 8 → (v : ℕ) → times (paramsOf r) v ≡ sum 8 (λ k. paramAt k v)
   unfolding times sum one
   times-params h v =
-      ⊎-elim (λ (e : leb 5 (r .kind) ≡ true).
+      ⊎-elim (λ (e : isReceiver (nodeOf r) ≡ true).
       rw e (times-take v 0 (r .args) (r .arity) ∙ ap (λ (n : ℕ). sum n (λ k. one (ltb k (r .arity) && eqb v (getD (r .args) k 0)))) h))
-      (λ (e : leb 5 (r .kind) ≡ false). rw e) (decided (leb 5 (r .kind)))
+      (λ (e : isReceiver (nodeOf r) ≡ false). rw e) (decided (isReceiver (nodeOf r)))
 
 -- ---- all records
 

@@ -3,9 +3,9 @@ use Prim.Native.Nat.{ℕ, _+_, _<_}
 use mathlib.Core.Path.{_≡_}
 use mathlib.Core.Bool.{cond}
 use mathlib.Core.List.{List, []}
-use lib.Dec.{leb}
 use lib.ListN.{length, getD}
-use Rattle.records.specs.Record.{argsOf}
+use Rattle.records.specs.Record.{argsOf, nodeOf}
+use Rattle.records.specs.Kinds.{isReceiver}
 use Rattle.records.specs.declared.Record.{Record}
 
 -- each entry v of table t is more by f v in table u
@@ -16,6 +16,6 @@ Grown t u f = (v : ℕ) → v < length t → getD u v 0 ≡ getD t v 0 + f v
 abbrev pub Below : List ℕ → ℕ → Type 0
 Below t b = (v : ℕ) → getD t v 0 < b
 
--- the parameters that a record binds: kinds 5 and up are in and resource
+-- the parameters that a record binds
 abbrev pub paramsOf : Record → List ℕ
-paramsOf r = cond (leb 5 (r .kind)) (argsOf r) []
+paramsOf r = cond (isReceiver (nodeOf r)) (argsOf r) []

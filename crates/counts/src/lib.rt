@@ -8,7 +8,7 @@ ghost use lib.Dec.{ltb, eqb};
 ghost use Rattle.laws.specs.Search.{first};
 ghost use Rattle.laws.specs.Lists.{times, one};
 ghost use Rattle.model.specs.Formed.{refuse, children, binds, fieldsTo, binders, refusal9, refusal11};
-ghost use Rattle.records.specs.Record.{nodeOf, arrayOf, foundOf};
+ghost use Rattle.records.specs.Record.{RecordsFit, nodeOf, arrayOf, foundOf};
 ghost use Rattle.counts.specs.Counts.{Grown, Below, paramsOf};
 use records::Check;
 use records::Record;
@@ -32,19 +32,19 @@ fn count_children(table: &mut [u16], r: Record)
     requires { ⌜ Below (now table) 65000 ⌝ }
     ensures { λ _. ⌜ Grown (now (table .entry)) (now (table .exit)) (times (children (nodeOf r))) ⌝ }
 {
-    add_if(table, 0 < r.kind, r.left);
-    add_if(table, (r.kind == 2) | (r.kind == 3), r.right);
+    add_if(table, records::continues(r), r.left);
+    add_if(table, records::branches(r), r.right);
 }
 
 // How many child fields name each node.
 fn count_fields(file: &[u8], t: Trailer) -> [u16; 1024]
-    requires { ⌜ (t .start + 16 * t .nodes ≤ length (now file)) × (t .nodes ≤ 1024) ⌝ }
+    requires { ⌜ RecordsFit (now file) t × (t .nodes ≤ 1024) ⌝ }
     ensures { λ r. ⌜ ((v : ℕ) → v < 1024 → getD r v 0 ≡ fieldsTo (arrayOf (now (file .entry)) t) v) ⌝ }
 {
     let mut table = [0u16; 1024];
     let mut j: usize = 0;
     while j < t.nodes {
-        let r = records::record_at(file, t.start + 16 * j);
+        let r = records::node_at(file, t, j);
         count_children(&mut table, r);
         j += 1;
     }
@@ -57,9 +57,10 @@ fn count_params(table: &mut [u16], r: Record)
     ensures { λ _. ⌜ Grown (now (table .entry)) (now (table .exit)) (times (paramsOf r)) ⌝ }
 {
     let args = r.args;
+    let binds = records::receives(r);
     let mut k: usize = 0;
     while k < 8 {
-        add_if(table, (5 <= r.kind) & (k < r.arity), records::wide(args[k]));
+        add_if(table, binds & (k < r.arity), wire::byte_index(args[k]));
         k += 1;
     }
 }
@@ -69,19 +70,19 @@ fn count_names(table: &mut [u16], r: Record)
     requires { ⌜ Below (now table) 60000 ⌝ }
     ensures { λ _. ⌜ Grown (now (table .entry)) (now (table .exit)) (times (binds (nodeOf r))) ⌝ }
 {
-    add_if(table, r.kind == 1, r.name);
+    add_if(table, records::is_new(r), r.name);
     count_params(table, r);
 }
 
 // How many times each name is bound: one mark for each of 256 names.
 fn count_binders(file: &[u8], t: Trailer) -> [u16; 256]
-    requires { ⌜ (t .start + 16 * t .nodes ≤ length (now file)) × (t .nodes ≤ 1024) ⌝ }
+    requires { ⌜ RecordsFit (now file) t × (t .nodes ≤ 1024) ⌝ }
     ensures { λ r. ⌜ ((v : ℕ) → v < 256 → getD r v 0 ≡ binders (arrayOf (now (file .entry)) t) v) ⌝ }
 {
     let mut marks = [0u16; 256];
     let mut j: usize = 0;
     while j < t.nodes {
-        let r = records::record_at(file, t.start + 16 * j);
+        let r = records::node_at(file, t, j);
         count_names(&mut marks, r);
         j += 1;
     }
@@ -105,7 +106,7 @@ fn first_not_one(number: u8, table: &[u16], from: usize, n: usize) -> Check
 
 // Refusal 9.
 pub fn bad_parent(file: &[u8], t: Trailer) -> Check
-    requires { ⌜ (t .start + 16 * t .nodes ≤ length (now file)) × (t .nodes ≤ 1024) ⌝ }
+    requires { ⌜ RecordsFit (now file) t × (t .nodes ≤ 1024) ⌝ }
     ensures { λ r. ⌜ foundOf r ≡ refusal9 (arrayOf (now (file .entry)) t) ⌝ }
 {
     let table = count_fields(file, t);
@@ -114,7 +115,7 @@ pub fn bad_parent(file: &[u8], t: Trailer) -> Check
 
 // Refusal 11.
 pub fn bad_binding(file: &[u8], t: Trailer) -> Check
-    requires { ⌜ (t .start + 16 * t .nodes ≤ length (now file)) × (t .nodes ≤ 1024) ⌝ }
+    requires { ⌜ RecordsFit (now file) t × (t .nodes ≤ 1024) ⌝ }
     requires { ⌜ t .names ≤ 256 ⌝ }
     ensures { λ r. ⌜ foundOf r ≡ refusal11 (arrayOf (now (file .entry)) t) ⌝ }
 {

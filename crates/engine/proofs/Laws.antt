@@ -11,30 +11,29 @@ use lib.Dec.{eqb, ltb, leb}
 use lib.ListN.{length, getD, drop}
 use borrow.Author.Tests.{eqb-true, eq-eqb, ne-eqb, le-ltb, leb-true, leb-false, not-false}
 use Rattle.laws.specs.Search.{hit}
-use Rattle.laws.proofs.Search.{and-split, or-split, or-false, first-hit, test-hit}
-use Rattle.laws.proofs.Lists.{All-getD}
-use Rattle.model.specs.Tree.{Array, nodeAt, isAgent}
+use Rattle.laws.proofs.Search.{or-split, or-false, first-hit, test-hit}
+use Rattle.model.specs.Tree.{Array}
 use Rattle.model.specs.Calculus.{Choices, Thread, Config, Attempt, choicesOf}
 use Rattle.model.specs.Formed.{WellFormed}
 use Rattle.model.specs.Numbers.{nobody}
 use Rattle.model.specs.Memory as M
 use Rattle.model.specs.declared.Ending.{Ending}
 use Rattle.model.specs.declared.Ending.the-variants.{Quiet, Spent, Full}
-use Rattle.model.specs.Memory.{Memory, threadIn, configOf, entriesOf, threadFormed, formed, stops, onAnswer, stepIn, try}
+use Rattle.model.specs.Memory.{Memory, threadIn, configOf, entriesOf, formed, stops, onAnswer, stepIn, try}
 use Rattle.model.specs.Memory.{ends, more, walkIn, ended, moved, onResult, turnIn, onFound, nextIn, resumed, Tells}
 use Rattle.model.proofs.Memory.{length-threads, threads-at, thread-at}
 use Rattle.model.proofs.Lent.{formed-sound, sound-formed}
 use Rattle.model.proofs.Told.{walk-next, next-tells, next-sound}
 use Rattle.records.specs.declared.Trailer.{Trailer}
 use Rattle.records.specs.Record.{arrayOf}
-use Rattle.arrays.specs.File.{IsRead}
 use Rattle.ready.specs.declared.Ready.{Ready}
 use Rattle.ready.specs.declared.Ready.the-variants.{Nothing, At}
 use Rattle.ready.specs.Ready.{meeting, firstMeeting, foundPair}
 use Rattle.ready.proofs.Attempts.{attempt-24, attempt-refused, first-is}
 use Rattle.steps.specs.declared.Fired.{Fired}
 use Rattle.steps.specs.declared.Fired.the-variants.{Stopped, Made}
-use Rattle.model.specs.Memory.{memory}
+use Rattle.lent.specs.declared.Counts.{Counts}
+use Rattle.lent.specs.Lent.{lentOf}
 use Rattle.steps.specs.Steps.{Fires}
 use Rattle.engine.specs.declared.Allowance.{Allowance}
 use Rattle.engine.specs.declared.Turn.{Turn}
@@ -64,7 +63,7 @@ found-meets a c k ch r s e =
 
 -- ---- lists of an array that was read
 
-module _ (f : List ℕ) (t : Trailer) (read : IsRead f t) (l : List ℕ) (count : ℕ) (ml : List ℕ) (listed : ℕ) where
+module _ (f : List ℕ) (t : Trailer) (l ml : List ℕ) (n : Counts) where
   abbrev a : Array
   a = arrayOf f t
 
@@ -72,21 +71,16 @@ module _ (f : List ℕ) (t : Trailer) (read : IsRead f t) (l : List ℕ) (count 
   w = 2 + t .names
 
   abbrev m : Memory
-  m = memory l count ml listed
+  m = lentOf l ml n
+
+  abbrev count : ℕ
+  count = n .threads
 
   abbrev c : Config ℕ ℕ
   c = configOf a m
 
   len : length c ≡ count
   len = length-threads (t .names) count l
-
-  -- the threads have agent nodes
-  pub agents : formed a m ≡ true → (i : ℕ) → i < count → isAgent (nodeAt a (getD l (i * w) 0)) ≡ true
-  unfolding threadFormed
-  agents ok i h =
-      let e = All-getD (λ x. threadFormed a listed x ≡ true) c i nobody (formed-sound a m ok .threads) (rw len h) in
-      subst (λ (x : Thread ℕ ℕ). isAgent (nodeAt a (x .agent)) ≡ true) (thread-at (t .names) i count l h)
-      (and-split (isAgent (nodeAt a (getD c i nobody .agent))) _ e .0)
 
   -- the search for the first pair
   pub found-is : (ch : Choices) (j : ℕ) (x : Ready) → foundPair x ch ≡ firstMeeting a c count ch → nextIn a ch j m ≡ onFound a j m (foundPair x ch)
@@ -134,16 +128,17 @@ module _ (f : List ℕ) (t : Trailer) (read : IsRead f t) (l : List ℕ) (count 
     inside e = let x = or-false (leb count r) (leb count s) e in (leb-false count r (x .0), leb-false count s (x .1))
 
     -- 25 to 27
-    pub step-refused : r < count → s < count → (n : ℕ) → n ≡ meeting a (threadIn (t .names) (drop (r * w) l)) (threadIn (t .names) (drop (s * w) l)) → n ≢ 0
-        → stepIn a m u ≡ stops n
-    unfolding stepIn onAnswer
-    step-refused hr hs n e z =
-        let k : meeting a (getD c r nobody) (getD c s nobody) ≡ n = ap₂ (meeting a) (threads-at (t .names) r count l hr) (threads-at (t .names) s count l hs) ∙ sym e in
-        ap (onAnswer a m _) (attempt-refused a (entriesOf m) c u (rw len hr) (rw len hs) (λ q. z (sym k ∙ q))) ∙ ap stops k
+    pub meeting-is : r < count → s < count → (k : ℕ) → k ≡ meeting a (threadIn (t .names) (drop (r * w) l)) (threadIn (t .names) (drop (s * w) l))
+        → meeting a (getD c r nobody) (getD c s nobody) ≡ k
+    meeting-is hr hs k e = ap₂ (meeting a) (threads-at (t .names) r count l hr) (threads-at (t .names) s count l hs) ∙ sym e
 
-    pub meets-at : r < count → s < count → (n : ℕ) → n ≡ meeting a (threadIn (t .names) (drop (r * w) l)) (threadIn (t .names) (drop (s * w) l)) → n ≡ 0
-        → meeting a (getD c r nobody) (getD c s nobody) ≡ 0
-    meets-at hr hs n e z = ap₂ (meeting a) (threads-at (t .names) r count l hr) (threads-at (t .names) s count l hs) ∙ sym e ∙ z
+    pub step-refused : r < count → s < count → (k : ℕ) → k ≡ meeting a (threadIn (t .names) (drop (r * w) l)) (threadIn (t .names) (drop (s * w) l))
+        → k ≢ 0
+        → stepIn a m u ≡ stops k
+    unfolding stepIn onAnswer
+    step-refused hr hs k e z =
+        let j = meeting-is hr hs k e in
+        ap (onAnswer a m _) (attempt-refused a (entriesOf m) c u (rw len hr) (rw len hs) (λ q. z (sym j ∙ q))) ∙ ap stops j
 
 -- ---- the walk as a chain of turns
 
@@ -168,35 +163,35 @@ one-added n w = let e : n + suc (w .steps) ≡ n + 1 + w .steps = omega arith in
 
 -- ---- what a step leaves, as a turn
 
-module _ (f : List ℕ) (t : Trailer) (choices l : List ℕ) (count : ℕ) (ml : List ℕ) (listed r s : ℕ) where
+module _ (f : List ℕ) (t : Trailer) (choices l ml : List ℕ) (n : Counts) (r s : ℕ) where
   abbrev A : Array
   A = arrayOf f t
 
   abbrev N : Memory
-  N = memory l count ml listed
+  N = lentOf l ml n
 
   abbrev v : Attempt
   v = try (choicesOf choices) r s
 
-  pub turn-stopped : (z : Allowance) (e : Fired) (n : ℕ) (l′ ml′ : List ℕ) → Fires f t choices l count ml listed r s e l′ ml′ → e ≡ Stopped n
+  pub turn-stopped : (z : Allowance) (e : Fired) (k : ℕ) (l′ ml′ : List ℕ) → Fires f t choices l ml n r s e l′ ml′ → e ≡ Stopped k
       → Strides A z N (turnIn A N v) (Ended Full) l′ ml′
   unfolding turnIn onResult
-  turn-stopped z e n l′ ml′ h q =
-      let k = subst (λ (x : Fired). Fires f t choices l count ml listed r s x l′ ml′) q h .0 in
-      (ap (onResult v) (k .0), k .1, k .2)
+  turn-stopped z e k l′ ml′ h q =
+      let d = subst (λ (x : Fired). Fires f t choices l ml n r s x l′ ml′) q h .0 in
+      (ap (onResult v) (d .0), d .1, d .2)
 
-  pub turn-made : (e : Fired) (k j y : ℕ) (l′ ml′ : List ℕ) → Fires f t choices l count ml listed r s e l′ ml′ → e ≡ Made k j y
-      → (p q : ℕ) → p ≡ getD l (r * (2 + t .names)) 0 → q ≡ getD l (s * (2 + t .names)) 0 → r < count → s < count
+  pub turn-made : (e : Fired) (k : Counts) (y : ℕ) (l′ ml′ : List ℕ) → Fires f t choices l ml n r s e l′ ml′ → e ≡ Made k y
+      → (p q : ℕ) → p ≡ getD l (r * (2 + t .names)) 0 → q ≡ getD l (s * (2 + t .names)) 0 → r < n .threads → s < n .threads
       → (w z : Allowance) → z ≡ record { allowed = w .allowed; left = w .left - 1 }
-      → Strides A w N (turnIn A N v) (E.Made record { receiver = p; sender = q; marker = y; threads = k; markers = j; allowance = z }) l′ ml′
+      → Strides A w N (turnIn A N v) (E.Made record { receiver = p; sender = q; marker = y; counts = k; allowance = z }) l′ ml′
   unfolding turnIn onResult
-  turn-made e k j y l′ ml′ h z p q ep eq hr hs w b eb =
-      let g = subst (λ (x : Fired). Fires f t choices l count ml listed r s x l′ ml′) z h in (
+  turn-made e k y l′ ml′ h z p q ep eq hr hs w b eb =
+      let g = subst (λ (x : Fired). Fires f t choices l ml n r s x l′ ml′) z h in (
         v,
         ap (onResult v) (g .0),
         record {
-          receiver = ep ∙ ap (λ (x : Thread ℕ ℕ). x .agent) (sym (thread-at (t .names) r count l hr));
-          sender = eq ∙ ap (λ (x : Thread ℕ ℕ). x .agent) (sym (thread-at (t .names) s count l hs));
+          receiver = ep ∙ ap (λ (x : Thread ℕ ℕ). x .agent) (sym (thread-at (t .names) r (n .threads) l hr));
+          sender = eq ∙ ap (λ (x : Thread ℕ ℕ). x .agent) (sym (thread-at (t .names) s (n .threads) l hs));
           marker = g .1;
           threads = refl;
           markers = refl;
@@ -216,31 +211,34 @@ checked-step a m u e = rw e
 
 -- ---- the walk's loop: n steps made, those of w left, the lists now m
 
-module _ (a : Array) (ch : Choices) (k : ℕ) (m₀ : Memory) (n : ℕ) (w : Allowance) (m : Memory)
-    (e : walkIn a ch k m₀ ≡ added n (walkIn a ch (w .left) m)) (x : Stride) (l ml : List ℕ) (s : Strides a w m (nextIn a ch (w .left) m) x l ml) where
-  pub walk-ends : (y : Ending) → x ≡ Ended y → (i : ℕ) → i ≡ n
-      → walkedOf record { ending = y; steps = i; threads = m .threadCount; markers = m .markerCount } l ml ≡ walkIn a ch k m₀
+module _ (a : Array) (ch : Choices) (k : ℕ) (m₀ : Memory) (n : ℕ) (w : Allowance) (l₁ ml₁ : List ℕ) (c : Counts)
+    (e : walkIn a ch k m₀ ≡ added n (walkIn a ch (w .left) (lentOf l₁ ml₁ c))) (x : Stride) (l ml : List ℕ)
+    (s : Strides a w (lentOf l₁ ml₁ c) (nextIn a ch (w .left) (lentOf l₁ ml₁ c)) x l ml) where
+  abbrev now : Memory
+  now = lentOf l₁ ml₁ c
+
+  pub walk-ends : (y : Ending) → x ≡ Ended y → (i : ℕ) → i ≡ n → walkedOf record { ending = y; steps = i; counts = c } l ml ≡ walkIn a ch k m₀
   walk-ends y q i p =
-      let z = subst (λ (v : Stride). Strides a w m (nextIn a ch (w .left) m) v l ml) q s in
-      let o = e ∙ ap (added n) (walk-ended a ch (w .left) m y (z .0)) in
+      let z = subst (λ (v : Stride). Strides a w now (nextIn a ch (w .left) now) v l ml) q s in
+      let o = e ∙ ap (added n) (walk-ended a ch (w .left) now y (z .0)) in
       let same : n + 0 ≡ i = add-zero n ∙ sym p in
-      sym (o ∙ (λ v. record { ending = y; steps = same v; left = memory (sym (z .1) v) (m .threadCount) (sym (z .2) v) (m .markerCount) }))
+      sym (o ∙ (λ v. record { ending = y; steps = same v; left = lentOf (sym (z .1) v) (sym (z .2) v) c }))
 
   module _ (y : Turn) (q : x ≡ E.Made y) where
-    abbrev z : Strides a w m (nextIn a ch (w .left) m) (E.Made y) l ml
-    z = subst (λ (v : Stride). Strides a w m (nextIn a ch (w .left) m) v l ml) q s
+    abbrev z : Strides a w now (nextIn a ch (w .left) now) (E.Made y) l ml
+    z = subst (λ (v : Stride). Strides a w now (nextIn a ch (w .left) now) v l ml) q s
 
     pub walk-allowance : y .allowance ≡ record { allowed = w .allowed; left = w .left - 1 }
     walk-allowance = z .2 .allowance
 
-    pub walk-allowed : WellFormed a → formed a m ≡ true → 0 < w .left
-    walk-allowed wf ok = subst (Tells a ch (w .left) m) (z .1) (next-tells a wf ch (w .left) m (formed-sound a m ok)) .0
+    pub walk-allowed : WellFormed a → formed a now ≡ true → 0 < w .left
+    walk-allowed wf ok = subst (Tells a ch (w .left) now) (z .1) (next-tells a wf ch (w .left) now (formed-sound a now ok)) .0
 
-    pub walk-formed : WellFormed a → formed a m ≡ true → formed a (memory l (y .threads) ml (y .markers)) ≡ true
-    walk-formed wf ok = sound-formed a _ (next-sound a wf ch (w .left) m (formed-sound a m ok) (z .0) _ (z .1))
+    pub walk-formed : WellFormed a → formed a now ≡ true → formed a (lentOf l ml (y .counts)) ≡ true
+    walk-formed wf ok = sound-formed a _ (next-sound a wf ch (w .left) now (formed-sound a now ok) (z .0) _ (z .1))
 
-    pub walk-goes : (d : ℕ) → n + 1 ≡ d → walkIn a ch k m₀ ≡ added d (walkIn a ch (y .allowance .left) (memory l (y .threads) ml (y .markers)))
+    pub walk-goes : (d : ℕ) → n + 1 ≡ d → walkIn a ch k m₀ ≡ added d (walkIn a ch (y .allowance .left) (lentOf l ml (y .counts)))
     walk-goes d g =
         let f : w .left - 1 ≡ y .allowance .left = ap (λ (v : Allowance). v .left) (sym walk-allowance) in
-        e ∙ ap (added n) (walk-moved a ch (w .left) m (z .0) _ (z .1)) ∙ one-added n _
-        ∙ ap₂ (λ (u v : ℕ). added u (walkIn a ch v (memory l (y .threads) ml (y .markers)))) g f
+        e ∙ ap (added n) (walk-moved a ch (w .left) now (z .0) _ (z .1)) ∙ one-added n _
+        ∙ ap₂ (λ (u v : ℕ). added u (walkIn a ch v (lentOf l ml (y .counts)))) g f

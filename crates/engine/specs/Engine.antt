@@ -8,7 +8,8 @@ use Rattle.model.specs.Tree.{Array}
 use Rattle.model.specs.Calculus.{Choices, Attempt}
 use Rattle.model.specs.Numbers.{nobody}
 use Rattle.model.specs.Memory as M
-use Rattle.model.specs.Memory.{Memory, memory, configOf, formed, Result, stops, stepIn, walkIn, markerMade, Next, ended, moved, nextIn}
+use Rattle.model.specs.Memory.{Memory, configOf, formed, Result, stops, stepIn, walkIn, markerMade, Next, ended, moved, nextIn}
+use Rattle.lent.specs.Lent.{lentOf}
 use Rattle.engine.specs.declared.Allowance.{Allowance}
 use Rattle.engine.specs.declared.Turn.{Turn}
 use Rattle.engine.specs.declared.Stride.{Stride}
@@ -32,14 +33,14 @@ pub record TurnOf (a : Array) (w : Allowance) (m : Memory) (u : Attempt) (n : Me
   pub receiver : x .receiver ≡ getD (configOf a m) (u .receiver) nobody .agent
   pub sender : x .sender ≡ getD (configOf a m) (u .sender) nobody .agent
   pub marker : x .marker ≡ markerMade a m u
-  pub threads : x .threads ≡ n .threadCount
-  pub markers : x .markers ≡ n .markerCount
+  pub threads : x .counts .threads ≡ n .threadCount
+  pub markers : x .counts .markers ≡ n .markerCount
   pub allowance : x .allowance ≡ record { allowed = w .allowed; left = w .left - 1 }
 
 -- a stride's answer and both lists at exit
 abbrev pub Strides : Array → Allowance → Memory → Next → Stride → List ℕ → List ℕ → Type 0
 Strides a w m x (Ended e) l ml = (x ≡ ended e) × (l ≡ m .threads) × (ml ≡ m .markers)
-Strides a w m x (Made y) l ml = (u : Attempt) × (x ≡ moved u (memory l (y .threads) ml (y .markers))) × TurnOf a w m u (memory l (y .threads) ml (y .markers)) y
+Strides a w m x (Made y) l ml = (u : Attempt) × (x ≡ moved u (lentOf l ml (y .counts))) × TurnOf a w m u (lentOf l ml (y .counts)) y
 
 -- ---- the walk
 
@@ -49,12 +50,12 @@ added n w = record { ending = w .ending; steps = n + w .steps; left = w .left }
 
 -- a walk's answer and both lists at exit
 abbrev pub walkedOf : Walk → List ℕ → List ℕ → M.Walked
-walkedOf w l ml = record { ending = w .ending; steps = w .steps; left = memory l (w .threads) ml (w .markers) }
+walkedOf w l ml = record { ending = w .ending; steps = w .steps; left = lentOf l ml (w .counts) }
 
 -- 23, or the walk
-abbrev pub Walks : Array → Choices → ℕ → Memory → Walked → List ℕ → List ℕ → Type 0
-Walks a ch allowed m (W.Refused n) l ml = (n ≡ 23) × (formed a m ≡ false) × (l ≡ m .threads) × (ml ≡ m .markers)
-Walks a ch allowed m (W.Walked w) l ml = (formed a m ≡ true) × (walkedOf w l ml ≡ walkIn a ch allowed m)
+abbrev pub WalkedAs : Array → Choices → ℕ → Memory → Walked → List ℕ → List ℕ → Type 0
+WalkedAs a ch allowed m (W.Refused n) l ml = (n ≡ 23) × (formed a m ≡ false) × (l ≡ m .threads) × (ml ≡ m .markers)
+WalkedAs a ch allowed m (W.Walked w) l ml = (formed a m ≡ true) × (walkedOf w l ml ≡ walkIn a ch allowed m)
 
 -- 23, or one turn of the walk
 abbrev pub Turns : Array → Choices → Allowance → Memory → Strode → List ℕ → List ℕ → Type 0

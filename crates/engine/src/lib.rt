@@ -1,21 +1,22 @@
 // The step engine on the lists of an array that was read: start, step, and the walk of first ready pairs.
 // Promises the model's start, step and walk. Depends on steps, lent, ready, threads, markers, unfolds, frees, arrays, records, wire,
-// model and laws. The free names of all nodes are worked out once per call, into a table of 32,768 bytes of the engine's own.
+// model and laws. The free names of all nodes are worked out once per call, into 32,768 bytes of the engine's own.
 ghost use mathlib.Core.Path.{_≡_};
 ghost use mathlib.Core.Bool.{true};
 ghost use mathlib.Core.List.{[]};
 ghost use Prim.Native.Nat.{_+_, _*_, _-_, _<_};
-ghost use lib.ListN.{length, getD};
+ghost use lib.ListN.{length, getD, replicate};
 ghost use Rattle.model.specs.Calculus.{choicesOf};
 ghost use Rattle.model.specs.Numbers.{nobody};
-ghost use Rattle.model.specs.Memory.{threadsIn, formed, startIn, stepIn, walkIn, try, turnIn, nextIn};
+ghost use Rattle.model.specs.Memory.{memory, threadsIn, formed, startIn, stepIn, walkIn, try, turnIn, nextIn};
 ghost use Rattle.records.specs.Record.{arrayOf};
 ghost use Rattle.arrays.specs.File.{IsRead};
-ghost use Rattle.frees.specs.Frees.{AllFree};
-ghost use Rattle.model.specs.Memory.{memory};
-ghost use Rattle.steps.specs.Steps.{Leaves};
+ghost use Rattle.unfolds.specs.Unfold.{Prepared};
+ghost use Rattle.lent.specs.Lent.{lentOf};
+ghost use Rattle.steps.specs.Steps.{FiredAs};
 ghost use Rattle.ready.specs.Ready.{meeting};
-ghost use Rattle.engine.specs.Engine.{checkedStep, Strides, walkedOf, Walks, Turns};
+ghost use Rattle.engine.specs.Engine.{checkedStep, Strides, walkedOf, WalkedAs, Turns};
+use lent::Counts;
 use model::Ending;
 use ready::Ready;
 use records::Trailer;
@@ -66,8 +67,7 @@ pub struct Turn {
     pub receiver: usize,
     pub sender: usize,
     pub marker: u32,
-    pub threads: usize,
-    pub markers: usize,
+    pub counts: Counts,
     pub allowance: Allowance,
 }
 
@@ -87,8 +87,7 @@ pub enum Strode {
 pub struct Walk {
     pub ending: Ending,
     pub steps: u32,
-    pub threads: usize,
-    pub markers: usize,
+    pub counts: Counts,
 }
 
 // The same, or refusal 23.
@@ -97,62 +96,73 @@ pub enum Walked {
     Walked(Walk),
 }
 
+// The start, with an environment where no name holds anything.
+fn start_with(
+    file: &[u8],
+    t: Trailer,
+    frees: &[u64],
+    choices: &[u8],
+    threads: &mut [u32],
+    env: &mut [u32],
+) -> Fired
+    requires { ⌜ Prepared (now file) t (now frees) (now choices) × (now env ≡ replicate (t .names) 0) ⌝ }
+    ensures { λ e. ⌜ FiredAs (memory (now (threads .entry)) 0 [] 0)
+        (startIn (arrayOf (now (file .entry)) t) (choicesOf (now (choices .entry))) (memory (now (threads .entry)) 0 [] 0)) e (now (threads .exit)) [] ⌝ }
+{
+    let total = unfolds::count_threads(file, t, frees, choices, 0, 0, env, 0);
+    if !lent::threads_fit(threads, t.names, total) {
+        return Fired::Stopped(28);
+    }
+    unfolds::unfold_node(file, t, frees, choices, 0, 0, env, threads, 0);
+    Fired::Made(
+        Counts {
+            threads: total,
+            markers: 0,
+        },
+        0,
+    )
+}
+
 // Writes the start, or refuses it by 28.
 pub fn start(file: &[u8], t: Trailer, choices: &[u8], threads: &mut [u32]) -> Fired
     requires { ⌜ IsRead (now file) t × (length (now choices) ≡ 128) ⌝ }
-    ensures { λ e. ⌜ Leaves (memory (now (threads .entry)) 0 [] 0)
+    ensures { λ e. ⌜ FiredAs (memory (now (threads .entry)) 0 [] 0)
         (startIn (arrayOf (now (file .entry)) t) (choicesOf (now (choices .entry))) (memory (now (threads .entry)) 0 [] 0)) e (now (threads .exit)) [] ⌝ }
 {
-    let total = unfolds::count_threads(file, t, choices, 0);
-    if (256 < total) | (threads.len() / (2 + t.names) < total) {
-        return Fired::Stopped(28);
-    }
-    let mut table = [0u64; 4096];
-    frees::fill_frees(&mut table, file, t);
+    let mut frees = [0u64; 4096];
+    frees::fill_frees(&mut frees, file, t);
     let mut env = [0u32; 256];
     let n = t.names;
-    unfolds::unfold_node(file, t, &table, choices, 0, 0, &mut env[..n], threads, 0);
-    Fired::Made(total, 0, 0)
+    start_with(file, t, &frees, choices, threads, &mut env[..n])
 }
 
 // A step on well-formed lists: 24 to 29, or the counts after it.
 fn step_formed(
     file: &[u8],
     t: Trailer,
-    table: &[u64],
+    frees: &[u64],
     choices: &[u8],
     threads: &mut [u32],
-    count: usize,
     markers: &mut [u16],
-    listed: usize,
+    counts: Counts,
     r: usize,
     s: usize,
 ) -> Fired
-    requires { ⌜ IsRead (now file) t × (length (now choices) ≡ 128) × (length (now table) ≡ 4096) × AllFree (now table) (arrayOf (now file) t) ⌝ }
-    requires { ⌜ formed (arrayOf (now file) t) (memory (now threads) count (now markers) listed) ≡ true ⌝ }
-    ensures { λ e. ⌜ Leaves (memory (now (threads .entry)) count (now (markers .entry)) listed)
-        (stepIn (arrayOf (now (file .entry)) t) (memory (now (threads .entry)) count (now (markers .entry)) listed) (try (choicesOf (now (choices .entry))) r s))
+    requires { ⌜ Prepared (now file) t (now frees) (now choices) ⌝ }
+    requires { ⌜ formed (arrayOf (now file) t) (lentOf (now threads) (now markers) counts) ≡ true ⌝ }
+    ensures { λ e. ⌜ FiredAs (lentOf (now (threads .entry)) (now (markers .entry)) counts)
+        (stepIn (arrayOf (now (file .entry)) t) (lentOf (now (threads .entry)) (now (markers .entry)) counts) (try (choicesOf (now (choices .entry))) r s))
         e (now (threads .exit)) (now (markers .exit)) ⌝ }
 {
+    let count = counts.threads;
     if (count <= r) | (count <= s) {
         return Fired::Stopped(24);
     }
-    let n = ready::pair_refusal(file, t, threads, count, r, s);
+    let n = ready::pair_refusal(file, t, threads, r, s);
     if n != 0 {
         return Fired::Stopped(n);
     }
-    steps::fire(
-        file,
-        t,
-        table,
-        choices,
-        threads,
-        count,
-        markers,
-        listed,
-        r,
-        s,
-    )
+    steps::fire(file, t, frees, choices, threads, markers, counts, r, s)
 }
 
 // A step: 23 to 29, or the counts after it.
@@ -161,83 +171,58 @@ pub fn step(
     t: Trailer,
     choices: &[u8],
     threads: &mut [u32],
-    count: usize,
     markers: &mut [u16],
-    listed: usize,
+    counts: Counts,
     r: usize,
     s: usize,
 ) -> Fired
     requires { ⌜ IsRead (now file) t × (length (now choices) ≡ 128) ⌝ }
-    ensures { λ e. ⌜ Leaves (memory (now (threads .entry)) count (now (markers .entry)) listed)
-        (checkedStep (arrayOf (now (file .entry)) t) (memory (now (threads .entry)) count (now (markers .entry)) listed) (try (choicesOf (now (choices .entry))) r s))
+    ensures { λ e. ⌜ FiredAs (lentOf (now (threads .entry)) (now (markers .entry)) counts)
+        (checkedStep (arrayOf (now (file .entry)) t) (lentOf (now (threads .entry)) (now (markers .entry)) counts) (try (choicesOf (now (choices .entry))) r s))
         e (now (threads .exit)) (now (markers .exit)) ⌝ }
 {
-    let mut table = [0u64; 4096];
-    frees::fill_frees(&mut table, file, t);
-    if !lent::well_formed(file, t, &table, threads, count, markers, listed) {
+    let mut frees = [0u64; 4096];
+    frees::fill_frees(&mut frees, file, t);
+    if !lent::well_formed(file, t, &frees, threads, markers, counts) {
         return Fired::Stopped(23);
     }
-    step_formed(
-        file,
-        t,
-        &table,
-        choices,
-        threads,
-        count,
-        markers,
-        listed,
-        r,
-        s,
-    )
+    step_formed(file, t, &frees, choices, threads, markers, counts, r, s)
 }
 
 // The step of a ready pair as one turn of the walk.
 fn pair_turn(
     file: &[u8],
     t: Trailer,
-    table: &[u64],
+    frees: &[u64],
     choices: &[u8],
     threads: &mut [u32],
-    count: usize,
     markers: &mut [u16],
-    listed: usize,
+    counts: Counts,
     r: usize,
     s: usize,
     allowance: Allowance,
 ) -> Stride
-    requires { ⌜ IsRead (now file) t × (length (now choices) ≡ 128) × (length (now table) ≡ 4096) × AllFree (now table) (arrayOf (now file) t) ⌝ }
-    requires { ⌜ formed (arrayOf (now file) t) (memory (now threads) count (now markers) listed) ≡ true × (r < count) × (s < count) ⌝ }
-    requires { ⌜ meeting (arrayOf (now file) t) (getD (threadsIn (t .names) count (now threads)) r nobody)
-        (getD (threadsIn (t .names) count (now threads)) s nobody) ≡ 0 ⌝ }
+    requires { ⌜ Prepared (now file) t (now frees) (now choices) ⌝ }
+    requires { ⌜ formed (arrayOf (now file) t) (lentOf (now threads) (now markers) counts) ≡ true × (r < counts .threads) × (s < counts .threads) ⌝ }
+    requires { ⌜ meeting (arrayOf (now file) t) (getD (threadsIn (t .names) (counts .threads) (now threads)) r nobody)
+        (getD (threadsIn (t .names) (counts .threads) (now threads)) s nobody) ≡ 0 ⌝ }
     requires { ⌜ 0 < allowance .left ⌝ }
-    ensures { λ e. ⌜ Strides (arrayOf (now (file .entry)) t) allowance (memory (now (threads .entry)) count (now (markers .entry)) listed)
-        (turnIn (arrayOf (now (file .entry)) t) (memory (now (threads .entry)) count (now (markers .entry)) listed) (try (choicesOf (now (choices .entry))) r s))
+    ensures { λ e. ⌜ Strides (arrayOf (now (file .entry)) t) allowance (lentOf (now (threads .entry)) (now (markers .entry)) counts)
+        (turnIn (arrayOf (now (file .entry)) t) (lentOf (now (threads .entry)) (now (markers .entry)) counts) (try (choicesOf (now (choices .entry))) r s))
         e (now (threads .exit)) (now (markers .exit)) ⌝ }
 {
     let width = 2 + t.names;
-    let receiver = wire::wide(threads[r * width]);
-    let sender = wire::wide(threads[s * width]);
+    let receiver = wire::word_index(threads[r * width]);
+    let sender = wire::word_index(threads[s * width]);
     let lessened = allowance.spend();
-    let fired = steps::fire(
-        file,
-        t,
-        table,
-        choices,
-        threads,
-        count,
-        markers,
-        listed,
-        r,
-        s,
-    );
+    let fired = steps::fire(file, t, frees, choices, threads, markers, counts, r, s);
     match fired {
         Fired::Stopped(_number) => Stride::Ended(Ending::Full),
-        Fired::Made(used, noted, marker) => Stride::Made(Turn {
+        Fired::Made(used, marker) => Stride::Made(Turn {
             receiver,
             sender,
             marker,
-            threads: used,
-            markers: noted,
+            counts: used,
             allowance: lessened,
         }),
     }
@@ -247,21 +232,21 @@ fn pair_turn(
 fn stride_formed(
     file: &[u8],
     t: Trailer,
-    table: &[u64],
+    frees: &[u64],
     choices: &[u8],
     threads: &mut [u32],
-    count: usize,
     markers: &mut [u16],
-    listed: usize,
+    counts: Counts,
     allowance: Allowance,
 ) -> Stride
-    requires { ⌜ IsRead (now file) t × (length (now choices) ≡ 128) × (length (now table) ≡ 4096) × AllFree (now table) (arrayOf (now file) t) ⌝ }
-    requires { ⌜ formed (arrayOf (now file) t) (memory (now threads) count (now markers) listed) ≡ true ⌝ }
-    ensures { λ e. ⌜ Strides (arrayOf (now (file .entry)) t) allowance (memory (now (threads .entry)) count (now (markers .entry)) listed)
-        (nextIn (arrayOf (now (file .entry)) t) (choicesOf (now (choices .entry))) (allowance .left) (memory (now (threads .entry)) count (now (markers .entry)) listed))
+    requires { ⌜ Prepared (now file) t (now frees) (now choices) ⌝ }
+    requires { ⌜ formed (arrayOf (now file) t) (lentOf (now threads) (now markers) counts) ≡ true ⌝ }
+    ensures { λ e. ⌜ Strides (arrayOf (now (file .entry)) t) allowance (lentOf (now (threads .entry)) (now (markers .entry)) counts)
+        (nextIn (arrayOf (now (file .entry)) t) (choicesOf (now (choices .entry))) (allowance .left)
+        (lentOf (now (threads .entry)) (now (markers .entry)) counts))
         e (now (threads .exit)) (now (markers .exit)) ⌝ }
 {
-    let found = ready::first_ready(file, t, threads, count);
+    let found = ready::first_ready(file, t, threads, counts.threads);
     match found {
         Ready::Nothing => Stride::Ended(Ending::Quiet),
         Ready::At(r, s) => {
@@ -272,12 +257,11 @@ fn stride_formed(
             pair_turn(
                 file,
                 t,
-                table,
+                frees,
                 choices,
                 threads,
-                count,
                 markers,
-                listed,
+                counts,
                 r,
                 s,
                 allowance,
@@ -290,46 +274,32 @@ fn stride_formed(
 fn walk_formed(
     file: &[u8],
     t: Trailer,
-    table: &[u64],
+    frees: &[u64],
     choices: &[u8],
     threads: &mut [u32],
-    count: usize,
     markers: &mut [u16],
-    listed: usize,
+    counts: Counts,
     allowed: u32,
 ) -> Walk
-    requires { ⌜ IsRead (now file) t × (length (now choices) ≡ 128) × (length (now table) ≡ 4096) × AllFree (now table) (arrayOf (now file) t) ⌝ }
-    requires { ⌜ formed (arrayOf (now file) t) (memory (now threads) count (now markers) listed) ≡ true ⌝ }
+    requires { ⌜ Prepared (now file) t (now frees) (now choices) ⌝ }
+    requires { ⌜ formed (arrayOf (now file) t) (lentOf (now threads) (now markers) counts) ≡ true ⌝ }
     ensures { λ w. ⌜ walkedOf w (now (threads .exit)) (now (markers .exit))
-        ≡ walkIn (arrayOf (now (file .entry)) t) (choicesOf (now (choices .entry))) allowed (memory (now (threads .entry)) count (now (markers .entry)) listed) ⌝ }
+        ≡ walkIn (arrayOf (now (file .entry)) t) (choicesOf (now (choices .entry))) allowed (lentOf (now (threads .entry)) (now (markers .entry)) counts) ⌝ }
 {
     let mut allowance = Allowance::new(allowed);
-    let mut used = count;
-    let mut noted = listed;
+    let mut used = counts;
     loop {
-        let stride = stride_formed(
-            file,
-            t,
-            table,
-            choices,
-            threads,
-            used,
-            markers,
-            noted,
-            allowance,
-        );
+        let stride = stride_formed(file, t, frees, choices, threads, markers, used, allowance);
         match stride {
             Stride::Ended(ending) => {
                 return Walk {
                     ending,
                     steps: allowance.made(),
-                    threads: used,
-                    markers: noted,
+                    counts: used,
                 };
             }
             Stride::Made(turn) => {
-                used = turn.threads;
-                noted = turn.markers;
+                used = turn.counts;
                 let lessened = turn.allowance;
                 allowance = lessened;
             }
@@ -343,31 +313,20 @@ pub fn walk_lists(
     t: Trailer,
     choices: &[u8],
     threads: &mut [u32],
-    count: usize,
     markers: &mut [u16],
-    listed: usize,
+    counts: Counts,
     allowed: u32,
 ) -> Walked
     requires { ⌜ IsRead (now file) t × (length (now choices) ≡ 128) ⌝ }
-    ensures { λ e. ⌜ Walks (arrayOf (now (file .entry)) t) (choicesOf (now (choices .entry))) allowed
-        (memory (now (threads .entry)) count (now (markers .entry)) listed) e (now (threads .exit)) (now (markers .exit)) ⌝ }
+    ensures { λ e. ⌜ WalkedAs (arrayOf (now (file .entry)) t) (choicesOf (now (choices .entry))) allowed
+        (lentOf (now (threads .entry)) (now (markers .entry)) counts) e (now (threads .exit)) (now (markers .exit)) ⌝ }
 {
-    let mut table = [0u64; 4096];
-    frees::fill_frees(&mut table, file, t);
-    if !lent::well_formed(file, t, &table, threads, count, markers, listed) {
+    let mut frees = [0u64; 4096];
+    frees::fill_frees(&mut frees, file, t);
+    if !lent::well_formed(file, t, &frees, threads, markers, counts) {
         return Walked::Refused(23);
     }
-    Walked::Walked(walk_formed(
-        file,
-        t,
-        &table,
-        choices,
-        threads,
-        count,
-        markers,
-        listed,
-        allowed,
-    ))
+    Walked::Walked(walk_formed(file, t, &frees, choices, threads, markers, counts, allowed))
 }
 
 // One turn of the walk: 23, an ending, or the step made.
@@ -376,29 +335,27 @@ pub fn next_turn(
     t: Trailer,
     choices: &[u8],
     threads: &mut [u32],
-    count: usize,
     markers: &mut [u16],
-    listed: usize,
+    counts: Counts,
     allowance: Allowance,
 ) -> Strode
     requires { ⌜ IsRead (now file) t × (length (now choices) ≡ 128) ⌝ }
     ensures { λ e. ⌜ Turns (arrayOf (now (file .entry)) t) (choicesOf (now (choices .entry))) allowance
-        (memory (now (threads .entry)) count (now (markers .entry)) listed) e (now (threads .exit)) (now (markers .exit)) ⌝ }
+        (lentOf (now (threads .entry)) (now (markers .entry)) counts) e (now (threads .exit)) (now (markers .exit)) ⌝ }
 {
-    let mut table = [0u64; 4096];
-    frees::fill_frees(&mut table, file, t);
-    if !lent::well_formed(file, t, &table, threads, count, markers, listed) {
+    let mut frees = [0u64; 4096];
+    frees::fill_frees(&mut frees, file, t);
+    if !lent::well_formed(file, t, &frees, threads, markers, counts) {
         return Strode::Refused(23);
     }
     Strode::Strode(stride_formed(
         file,
         t,
-        &table,
+        &frees,
         choices,
         threads,
-        count,
         markers,
-        listed,
+        counts,
         allowance,
     ))
 }

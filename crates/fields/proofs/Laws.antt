@@ -3,7 +3,7 @@
 use Prim.Native.Nat.{ℕ}
 use native.Mathlib.Omega.{arith}
 use mathlib.Core.Path.{_≡_, refl, sym, ap, _∙_}
-use mathlib.Core.Bool.{Bool, true, false, not, _&&_, _||_, and-true}
+use mathlib.Core.Bool.{Bool, true, not, _&&_, _||_, and-true}
 use mathlib.Core.List.{List, _++_, append-nil}
 use lib.Dec.{eqb, ltb}
 use lib.ListN.{length}
@@ -16,8 +16,9 @@ use Rattle.model.specs.Tree.{Sort, out, inp, resource, Node}
 use Rattle.model.specs.Formed.{refuse, childFits, children, params, binds, sent, uses, refusal8, refusal10}
 use Rattle.records.specs.declared.Record.{Record}
 use Rattle.records.specs.declared.Trailer.{Trailer}
-use Rattle.records.specs.Record.{nodeOf, argsOf, arrayOf}
-use Rattle.records.proofs.Laws.{by-kind, kind-above, node-of}
+use Rattle.records.specs.Record.{sortOf, argsOf, arrayOf}
+use Rattle.records.proofs.Laws.{by-kind, node-of}
+use Rattle.records.proofs.KindLaws.{other}
 use Rattle.fields.specs.Fields.{argBelow, childrenFit, namesFit, badAt, firstBad, refusal6, refusal7}
 
 -- ---- one record
@@ -32,8 +33,7 @@ unfolding childrenFit all childFits children
 children-fit m i r =
     by-kind r
     (λ k node. (eqb k 0 || childFits m i (r .left)) && ((not (eqb k 2) && not (eqb k 3)) || childFits m i (r .right)) ≡ all (childFits m i) (children node))
-    refl refl two two refl refl
-    (λ k h. rw (kind-above k 0 h (omega arith), kind-above k 2 h (omega arith), kind-above k 3 h (omega arith)))
+    refl refl two two (λ k h. rw (other k 0 (omega arith), other k 2 (omega arith), other k 3 (omega arith)))
   where
     two : childFits m i (r .left) && childFits m i (r .right) ≡ childFits m i (r .left) && (childFits m i (r .right) && true)
     two = rw and-true
@@ -54,8 +54,7 @@ unfolding namesFit all uses binds
 names-fit n r e =
     by-kind r
     (λ k node. (not (eqb k 1) || f (r .name)) && (ltb k 4 || (f (r .name) && every 8 (argBelow n r))) ≡ all f (uses node ++ binds node))
-    refl refl refl refl (agents out) (agents inp)
-    (λ k h. rw (kind-above k 1 h (omega arith), le-ltb k 4 (omega arith)) (agents resource))
+    refl refl refl refl (λ k h. rw (other k 1 (omega arith), le-ltb k 4 (omega arith)) (agents (sortOf r)))
   where
     f : ℕ → Bool
     f v = ltb v n

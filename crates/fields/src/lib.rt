@@ -5,7 +5,7 @@ ghost use mathlib.Core.Path.{_≡_};
 ghost use Prim.Native.Nat.{_+_, _*_, _≤_};
 ghost use lib.ListN.{length};
 ghost use Rattle.laws.specs.Search.{every};
-ghost use Rattle.records.specs.Record.{foundOf};
+ghost use Rattle.records.specs.Record.{RecordsFit, foundOf};
 ghost use Rattle.fields.specs.Fields.{shapeFits, restZero, unusedZero, childrenFit, argBelow, namesFit, passes, firstBad};
 use records::Check;
 use records::Record;
@@ -60,7 +60,7 @@ fn args_below(n: usize, r: Record) -> bool
     let mut below = true;
     let mut k: usize = 0;
     while k < 8 {
-        below = below & ((r.arity <= k) | (records::wide(args[k]) < n));
+        below = below & ((r.arity <= k) | (wire::byte_index(args[k]) < n));
         k += 1;
     }
     below
@@ -91,12 +91,12 @@ fn node_passes(number: u8, t: Trailer, i: usize, r: Record) -> bool
 
 // Refusal 6, 7, 8 or 10 at the first node that it names.
 pub fn first_bad(number: u8, file: &[u8], t: Trailer) -> Check
-    requires { ⌜ t .start + 16 * t .nodes ≤ length (now file) ⌝ }
+    requires { ⌜ RecordsFit (now file) t ⌝ }
     ensures { λ r. ⌜ foundOf r ≡ firstBad number (now (file .entry)) t ⌝ }
 {
     let mut i: usize = 0;
     while i < t.nodes {
-        let r = records::record_at(file, t.start + 16 * i);
+        let r = records::node_at(file, t, i);
         if !node_passes(number, t, i, r) {
             return Check::Refused(Refusal { number, place: i });
         }

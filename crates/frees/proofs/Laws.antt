@@ -8,10 +8,9 @@ use mathlib.Core.Logic.{_≢_, ⊎-elim}
 use mathlib.Core.Bool.{Bool, true, not, _&&_, _||_, or-false, or-assoc}
 use mathlib.Core.List.{List, [], _∷_}
 use lib.Bits.{bitAnd, bitOr, bitXor}
-use lib.Dec.{eqb, leb}
+use lib.Dec.{eqb}
 use lib.ListN.{length, getD, set}
 use lib.Seq.{getD-set-same, getD-set-other}
-use borrow.Author.Tests.{le-leb}
 use Rattle.laws.specs.Search.{clear, any}
 use Rattle.laws.specs.Lists.{has}
 use Rattle.laws.specs.Bits.{bit}
@@ -20,32 +19,34 @@ use Rattle.laws.proofs.Lists.{has-here, has-later}
 use Rattle.laws.proofs.Bits.{bit-or, bit-less}
 use Rattle.marks.specs.Marks.{marked, markIf}
 use Rattle.marks.proofs.Laws.{marked-more}
-use Rattle.model.specs.Tree.{Array, Sort, Node, out, inp, resource, freeBelow, nodeAt, procAt, isFree, opens}
+use Rattle.model.specs.Tree.{Array, Sort, Node, out, inp, resource, freeBelow, nodeAt, procAt, isFree, isAgent, opens}
+use Rattle.model.specs.Memory.{isOut}
 use Rattle.model.specs.Nodes.{freeOf}
 use Rattle.model.specs.Formed.{children, params, binds, sent, uses, refusal8}
 use Rattle.model.proofs.Tree.{child-above}
 use Rattle.model.proofs.Nodes.{free-at}
 use Rattle.records.specs.declared.Record.{Record}
 use Rattle.records.specs.declared.Trailer.{Trailer}
-use Rattle.records.specs.Record.{argsOf, recordOf, nodeOf, arrayOf}
-use Rattle.records.proofs.Laws.{by-kind, kind-above, node-read}
+use Rattle.records.specs.Record.{argsOf, recordOf, sortOf, nodeOf, arrayOf}
+use Rattle.records.specs.Kinds.{isStop, isNewNode, isPar, isChoice}
+use Rattle.records.proofs.Laws.{node-read}
+use Rattle.records.proofs.KindLaws.{by-node}
 use Rattle.frees.specs.Frees.{atChild, RowFilled, FreeFrom}
 
 -- ---- the names that news open
 
-opens-of : (r : Record) (o : ℕ) → opens (nodeOf r) o ≡ eqb (r .kind) 1 && eqb o (r .name)
-unfolding opens
-opens-of r o =
-    by-kind r (λ k n. opens n o ≡ eqb k 1 && eqb o (r .name)) refl refl refl refl refl refl (λ k h. rw (kind-above k 1 h (omega arith)))
+opens-of : (r : Record) (o : ℕ) → opens (nodeOf r) o ≡ isNewNode (nodeOf r) && eqb o (r .name)
+unfolding opens isNewNode
+opens-of r o = by-node r (λ n. opens n o ≡ isNewNode n && eqb o (r .name)) refl refl refl refl refl
 
 -- the row has the names that the first j nodes open
 abbrev pub Opened : Array → List ℕ → ℕ → Type 0
 Opened a row j = (o : ℕ) → marked row 0 o ≡ any j (λ i. opens (nodeAt a i) o)
 
 pub opened-more : (s : List ℕ) (t : Trailer) (row : List ℕ) (j : ℕ) (r : Record) → length row ≡ 4 → r .name < 256 → j < t .nodes → r ≡ recordOf s t j
-    → Opened (arrayOf s t) row j → Opened (arrayOf s t) (markIf row (eqb (r .kind) 1) (r .name)) (j + 1)
+    → Opened (arrayOf s t) row j → Opened (arrayOf s t) (markIf row (isNewNode (nodeOf r)) (r .name)) (j + 1)
 opened-more s t row j r four small h e before o =
-    marked-more row (eqb (r .kind) 1) (r .name) o four small
+    marked-more row (isNewNode (nodeOf r)) (r .name) o four small
     ∙ ap₂ _||_ (before o) (sym (opens-of r o) ∙ ap (λ (n : Node). opens n o) (sym (node-read s t j r h e)))
     ∙ sym (any-step (λ i. opens (nodeAt (arrayOf s t) i) o) j)
 
@@ -75,22 +76,27 @@ child-agree f g (Node.par l r) h = ap₂ _||_ (h l (has-here l (r ∷ []))) (h r
 child-agree f g (Node.choice l r) h = ap₂ _||_ (h l (has-here l (r ∷ []))) (h r (has-later l (r ∷ []) r (has-here r [])))
 child-agree f g (Node.agent s x ys l) h = h l (has-here l [])
 
--- ---- a record's uses, and tests at its children, by its kind
+-- ---- a record's uses, and tests at its children
 
 module _ (r : Record) where
-  pub used-of : (v : ℕ) → has (uses (nodeOf r)) v ≡ (leb 4 (r .kind) && eqb v (r .name)) || (eqb (r .kind) 4 && has (argsOf r) v)
-  unfolding uses sent has
+  pub used-of : (v : ℕ) → has (uses (nodeOf r)) v ≡ (isAgent (nodeOf r) && eqb v (r .name)) || (isOut (nodeOf r) && has (argsOf r) v)
+  unfolding uses sent has isAgent isOut
   used-of v =
-      by-kind r (λ k n. has (uses n) v ≡ (leb 4 k && eqb v (r .name)) || (eqb k 4 && has (argsOf r) v)) refl refl refl refl refl refl
-      (λ k h. rw (kind-above k 4 h (omega arith), le-leb 4 k (omega arith)))
+      by-node r (λ n. has (uses n) v ≡ (isAgent n && eqb v (r .name)) || (isOut n && has (argsOf r) v)) refl refl refl refl (go (sortOf r))
+    where
+      go : (s : Sort) → eqb v (r .name) || has (sent s (argsOf r)) v
+          ≡ eqb v (r .name) || (isOut (Node.agent s (r .name) (argsOf r) (r .left)) && has (argsOf r) v)
+      go out = refl
+      go inp = refl
+      go resource = refl
 
-  -- a test at some child, by the kind
-  pub child-kind : (f : ℕ → Bool) → atChild f (nodeOf r) ≡ not (eqb (r .kind) 0) && (f (r .left) || ((eqb (r .kind) 2 || eqb (r .kind) 3) && f (r .right)))
-  unfolding atChild
-  child-kind f =
-      by-kind r (λ k n. atChild f n ≡ not (eqb k 0) && (f (r .left) || ((eqb k 2 || eqb k 3) && f (r .right))))
-      refl (sym (or-false _)) refl refl (sym (or-false _)) (sym (or-false _))
-      (λ k h. rw (kind-above k 0 h (omega arith), kind-above k 2 h (omega arith), kind-above k 3 h (omega arith)) (sym (or-false _)))
+  -- a test at some child
+  pub child-test : (f : ℕ → Bool)
+      → atChild f (nodeOf r) ≡ not (isStop (nodeOf r)) && (f (r .left) || ((isPar (nodeOf r) || isChoice (nodeOf r)) && f (r .right)))
+  unfolding atChild isStop isPar isChoice
+  child-test f =
+      by-node r (λ n. atChild f n ≡ not (isStop n) && (f (r .left) || ((isPar n || isChoice n) && f (r .right))))
+      refl (sym (or-false _)) refl refl (sym (or-false _))
 
 -- ---- the table while row i is filled
 

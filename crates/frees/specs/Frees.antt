@@ -1,4 +1,4 @@
--- What the table of free names holds: a row of marks for each node.
+-- What the list of free names holds: a row of marks for each node.
 use Prim.Native.Nat.{ℕ, _+_, _*_, _≤_, _<_}
 use mathlib.Core.Path.{_≡_}
 use mathlib.Core.Logic.{_≢_}
@@ -19,9 +19,9 @@ atChild f (par l r) = f l || f r
 atChild f (choice l r) = f l || f r
 atChild f (agent s x ys l) = f l
 
--- the rows of a node's children are in a table, above row i
+-- the rows of a node's children are in the list, above row i
 abbrev pub RowsAbove : List ℕ → ℕ → Node → Type 0
-RowsAbove table i n = (c : ℕ) → has (children n) c ≡ true → (i < c) × (4 * c + 3 < length table)
+RowsAbove frees i n = (c : ℕ) → has (children n) c ≡ true → (i < c) × (4 * c + 3 < length frees)
 
 -- row i has the free names of its node by its children's rows; every other row is as it was
 pub record RowFilled (before after : List ℕ) (i : ℕ) (n : Node) : Type 0 where
@@ -30,8 +30,8 @@ pub record RowFilled (before after : List ℕ) (i : ℕ) (n : Node) : Type 0 whe
 
 -- from node n on
 abbrev pub FreeFrom : List ℕ → Array → ℕ → Type 0
-FreeFrom table a n = (i v : ℕ) → n ≤ i → i < a .size → v < 256 → marked table (4 * i) v ≡ isFree (procAt a i) v
+FreeFrom frees a n = (i v : ℕ) → n ≤ i → i < a .size → v < 256 → marked frees (4 * i) v ≡ isFree (procAt a i) v
 
 -- every entry: name v is marked in row i exactly where it is free in node i
 abbrev pub AllFree : List ℕ → Array → Type 0
-AllFree table a = (i v : ℕ) → i < a .size → v < 256 → marked table (4 * i) v ≡ isFree (procAt a i) v
+AllFree frees a = (i v : ℕ) → i < a .size → v < 256 → marked frees (4 * i) v ≡ isFree (procAt a i) v

@@ -1,5 +1,5 @@
 // The names that news open, as a row of marks; and the free names of all nodes, worked out once, from the last node to the first, into
-// a table that the caller lends: a row of marks for each node. Promises that each mark is that of the process tree.
+// a list that the caller lends: a row of marks for each node. Promises that each mark is that of the process tree.
 // Depends on arrays, scopes, records, marks, model and laws.
 ghost use mathlib.Core.Path.{_≡_};
 ghost use mathlib.Core.Bool.{true};
@@ -9,7 +9,7 @@ ghost use Rattle.laws.specs.Lists.{has};
 ghost use Rattle.laws.specs.Bits.{bit};
 ghost use Rattle.model.specs.Tree.{isNew};
 ghost use Rattle.model.specs.Formed.{children, uses};
-ghost use Rattle.records.specs.Record.{nodeOf, arrayOf};
+ghost use Rattle.records.specs.Record.{RecordsFit, nodeOf, arrayOf};
 ghost use Rattle.marks.specs.Marks.{marked};
 ghost use Rattle.arrays.specs.File.{IsRead};
 ghost use Rattle.frees.specs.Frees.{atChild, RowsAbove, RowFilled, AllFree};
@@ -18,14 +18,14 @@ use records::Trailer;
 
 // The names that news open, marked in a row.
 pub fn opened(file: &[u8], t: Trailer) -> [u64; 4]
-    requires { ⌜ t .start + 16 * t .nodes ≤ length (now file) ⌝ }
+    requires { ⌜ RecordsFit (now file) t ⌝ }
     ensures { λ row. ⌜ ((o : ℕ) → marked row 0 o ≡ isNew (arrayOf (now (file .entry)) t) o) ⌝ }
 {
     let mut row = [0u64; 4];
     let mut i: usize = 0;
     while i < t.nodes {
-        let r = records::record_at(file, t.start + 16 * i);
-        marks::mark_if(&mut row, r.kind == 1, r.name);
+        let r = records::node_at(file, t, i);
+        marks::mark_if(&mut row, records::is_new(r), r.name);
         i += 1;
     }
     row
@@ -37,51 +37,51 @@ fn used_by(r: Record) -> [u64; 4]
     ensures { λ row. ⌜ ((v : ℕ) → v < 256 → marked row 0 v ≡ has (uses (nodeOf r)) v) ⌝ }
 {
     let mut row = [0u64; 4];
-    marks::mark_if(&mut row, 4 <= r.kind, r.name);
-    scopes::mark_args(&mut row, r.kind == 4, r);
+    marks::mark_if(&mut row, records::is_agent(r), r.name);
+    scopes::mark_args(&mut row, records::sends(r), r);
     row
 }
 
 // Word w of the names free in the children of a node whose record is r.
-fn below(table: &[u64], r: Record, w: usize) -> u64
-    requires { ⌜ (w < 4) × ((c : ℕ) → has (children (nodeOf r)) c ≡ true → 4 * c + 3 < length (now table)) ⌝ }
-    ensures { λ x. ⌜ ((k : ℕ) → bit x k ≡ atChild (λ c. bit (getD (now (table .entry)) (4 * c + w) 0) k) (nodeOf r)) ⌝ }
+fn below(frees: &[u64], r: Record, w: usize) -> u64
+    requires { ⌜ (w < 4) × ((c : ℕ) → has (children (nodeOf r)) c ≡ true → 4 * c + 3 < length (now frees)) ⌝ }
+    ensures { λ x. ⌜ ((k : ℕ) → bit x k ≡ atChild (λ c. bit (getD (now (frees .entry)) (4 * c + w) 0) k) (nodeOf r)) ⌝ }
 {
-    if r.kind == 0 {
+    if records::is_stop(r) {
         return 0;
     }
-    let left = table[4 * r.left + w];
-    if (r.kind == 2) | (r.kind == 3) {
-        return left | table[4 * r.right + w];
+    let left = frees[4 * r.left + w];
+    if records::branches(r) {
+        return left | frees[4 * r.right + w];
     }
     left
 }
 
 // The row of node i, whose record is r, from the rows of its children: what it uses, and what is free below and not bound by it.
-fn fill_row(table: &mut [u64], i: usize, r: Record)
-    requires { ⌜ (r .name < 256) × (4 * i + 3 < length (now table)) × RowsAbove (now table) i (nodeOf r) ⌝ }
-    ensures { λ _. ⌜ RowFilled (now (table .entry)) (now (table .exit)) i (nodeOf r) ⌝ }
+fn fill_row(frees: &mut [u64], i: usize, r: Record)
+    requires { ⌜ (r .name < 256) × (4 * i + 3 < length (now frees)) × RowsAbove (now frees) i (nodeOf r) ⌝ }
+    ensures { λ _. ⌜ RowFilled (now (frees .entry)) (now (frees .exit)) i (nodeOf r) ⌝ }
 {
     let used = used_by(r);
     let bound = scopes::bound_by(r);
     let mut w: usize = 0;
     while w < 4 {
-        let inside = below(table, r, w);
+        let inside = below(frees, r, w);
         let own = inside & bound[w];
-        table[4 * i + w] = used[w] | (inside ^ own);
+        frees[4 * i + w] = used[w] | (inside ^ own);
         w += 1;
     }
 }
 
 // The free names of all nodes.
-pub fn fill_frees(table: &mut [u64], file: &[u8], t: Trailer)
-    requires { ⌜ IsRead (now file) t × (length (now table) ≡ 4096) ⌝ }
-    ensures { λ _. ⌜ AllFree (now (table .exit)) (arrayOf (now (file .entry)) t) ⌝ }
+pub fn fill_frees(frees: &mut [u64], file: &[u8], t: Trailer)
+    requires { ⌜ IsRead (now file) t × (length (now frees) ≡ 4096) ⌝ }
+    ensures { λ _. ⌜ AllFree (now (frees .exit)) (arrayOf (now (file .entry)) t) ⌝ }
 {
     let mut i = t.nodes;
     while 0 < i {
         i -= 1;
-        let r = records::record_at(file, t.start + 16 * i);
-        fill_row(table, i, r);
+        let r = records::node_at(file, t, i);
+        fill_row(frees, i, r);
     }
 }

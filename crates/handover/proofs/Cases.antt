@@ -19,14 +19,16 @@ use Rattle.records.specs.Record as R
 use Rattle.fields.specs.Fields as D
 use Rattle.layout.specs.Table as Y
 use Rattle.arrays.specs.File.{remarkOf, readArray}
-use Rattle.handover.specs.Front.{judged, Reading, arrayRead, tableRead}
-use Rattle.model.specs.declared.Ending.{Ending}
+use Rattle.records.specs.declared.Trailer.{Trailer}
+use Rattle.layout.specs.declared.Sizes.{Sizes}
+use Rattle.handover.specs.Front.{judged, arrayRead, tableRead}
 use Rattle.engine.specs.declared.Walk.{Walk}
 use Rattle.handover.specs.declared.WalkAnswer.{WalkAnswer}
 use Rattle.handover.specs.declared.WalkAnswer.the-variants.{Walked, Refused}
-use Rattle.handover.specs.Engine.{startOf, stepOf, walkOf, nextLeft, strideOf, Left, walked, refused, saysWalk}
-use Rattle.handover.specs.Files.{Case, cases, remark, remarkedB, tablesRead, arraysRead, Leaves, calls, toLeft, Ended, Answers, endings, Unlisted}
-use Rattle.handover.specs.Refusals.{StartNumber, WalkNumber}
+use Rattle.handover.specs.Engine.{startOf, stepOf, walkOf, nextLeft, strideOf, Left, saysWalk}
+use Rattle.handover.specs.Files.{Case, cases, remark, remarkedB, tablesRead, arraysRead, Letters}
+use Rattle.handover.specs.Files.{Answered, calls, toLeft, Ended, Answers, endings, Unlisted}
+use Rattle.handover.specs.Refusals.{done, StartNumber, WalkNumber}
 
 -- Whoever unfolds this unfolds every definition behind the answer.
 computed : Unit {0}
@@ -34,7 +36,7 @@ unfolding F.test F.andThen F.under F.first F.every F.any F.sum L.one L.all L.has
     N.u16At N.u32At N.wordSum
     T.nodeAt T.grow T.tree T.procAt T.asAgent T.agentAt T.receives T.load T.opens T.isAgent T.isNew
     W.children W.params W.binds W.sent W.uses W.childFits W.refusal8 W.fieldsTo W.refusal9 W.refusal10 W.binders W.refusal11 W.reaches W.inReach W.refusal12
-    R.nodeOf D.refusal6 D.refusal7 Y.partsFit Y.refusal19 Y.refusal20 Y.refusal21
+    R.sortOf R.nodeOf D.refusal6 D.refusal7 Y.partsFit Y.refusal19 Y.refusal20 Y.refusal21
     L.put T.freeBelow T.isFree S.choicesOf S.stays S.bind S.keep S.unless S.onAgents S.cutFrom S.unfoldProc S.markerOf S.receiverLeaves S.senderLeaves
     S.stepped S.attempt S.start I.sameEntry I.position I.extend I.listAfter I.markersAfter
     M.words M.threadIn M.threadsIn M.wordsOf M.entryIn M.entriesIn M.numbersOf M.isResource M.isOut M.wordFormed M.threadFormed M.entryFormed M.unlike M.formed
@@ -42,7 +44,7 @@ unfolding F.test F.andThen F.under F.first F.every F.any F.sum L.one L.all L.has
     U.within U.shareBit U.fitBoth U.live U.taken U.onLive U.pairs U.check1 U.check2 U.arguments3 U.check3 U.balances4 U.check4 U.check5 U.verdict
 computed = tt
 
-pub cases-hold : map (λ (c : Case). judged (c .array) (c .table)) cases ≡ map (λ (c : Case). c .says) cases
+pub cases-hold : map (λ (c : Case). judged (c .array) (c .table)) cases ≡ map (λ (c : Case). done (c .says)) cases
 unfolding computed judged
 cases-hold = refl
 
@@ -50,35 +52,34 @@ pub remark-holds : remarkOf remarkedB ≡ remark
 unfolding computed readArray
 remark-holds = refl
 
-pub arrays-read : map (λ (c : List ℕ × Reading). arrayRead (c .0)) arraysRead ≡ map (λ (c : List ℕ × Reading). c .1) arraysRead
+pub arrays-read : map (λ (c : List ℕ × Trailer). arrayRead (c .0)) arraysRead ≡ map (λ (c : List ℕ × Trailer). done (c .1)) arraysRead
 unfolding computed arrayRead
 arrays-read = refl
 
-pub tables-read : map (λ (c : List ℕ × List ℕ × Reading). tableRead (c .0) (c .1)) tablesRead ≡ map (λ (c : List ℕ × List ℕ × Reading). c .2) tablesRead
+pub tables-read : map (λ (c : List ℕ × List ℕ × Sizes). tableRead (c .0) (c .1)) tablesRead
+    ≡ map (λ (c : List ℕ × List ℕ × Sizes). done (c .2)) tablesRead
 unfolding computed tableRead
 tables-read = refl
 
-pub calls-hold : All Leaves calls
+pub letters-hold : Letters
+letters-hold = (refl, refl)
+
+pub calls-hold : All Answered calls
 unfolding computed startOf stepOf strideOf nextLeft M.markerMade M.onResult M.turnIn M.onFound M.nextIn
 calls-hold = (refl, (refl, (refl, (refl, (refl, tt)))))
 
 -- ---- the walk's own answer
 
-walked-same : {x y : Ending} {i j k l m n : ℕ} → walked x i k m ≡ walked y j l n → (x ≡ y) × (i ≡ j) × (k ≡ l) × (m ≡ n)
-walked-same e = (cc, cc, cc, cc)
+done-same : {A : Type 0} {x y : A} → done x ≡ done y → x ≡ y
+done-same e = cc
 
-refused-walked : {B : Type 0} {n p i k m : ℕ} {x : Ending} → refused n p ≡ walked x i k m → B
-refused-walked e = let z : true ≡ false = cc in absurd (true≢false z)
-
-answer-same : (w : Walk) (x : WalkAnswer) → saysWalk x ≡ saysWalk (Walked w) → x ≡ Walked w
-answer-same w (Walked v) e =
-    let s = walked-same e in
-    ap Walked (λ i. record { ending = s .0 i; steps = s .1 i; threads = s .2 i; markers = s .3 i })
-answer-same w (Refused r) e = refused-walked e
+answer-same : (w : Walk) (x : WalkAnswer) → saysWalk x ≡ done w → x ≡ Walked w
+answer-same w (Walked v) e = ap Walked (done-same e)
+answer-same w (Refused r) e = let z : true ≡ false = cc in absurd (true≢false z)
 
 -- the reply that the definition gives names the answer
-answer-is : (c : Ended) → walkOf (c .array) toLeft (c .lent) (c .allowed) .reply ≡ saysWalk (Walked (c .walk)) → Answers c
-answer-is c e x l ml p = answer-same (c .walk) x (ap (λ (o : Left). o .reply) (p .leaves) ∙ e)
+answer-is : (c : Ended) → walkOf (c .array) toLeft (c .lent) (c .allowed) .reply ≡ done (c .walk) → Answers c
+answer-is c e x l ml p = answer-same (c .walk) x (ap (λ (o : Left Walk). o .reply) (p .leaves) ∙ e)
 
 pub endings-hold : All Answers endings
 unfolding computed walkOf

@@ -34,19 +34,20 @@ use Rattle.rules.specs.declared.Ruling.the-variants as R
 use Rattle.rules.specs.Ruling.{ruled}
 use Rattle.handover.specs.declared.Verdict.{Verdict}
 use Rattle.handover.specs.declared.Verdict.the-variants.{Held, Refused}
-use Rattle.handover.specs.Front.{Said, held, rule, refused, says, IsHeld, arrayIn, sizesIn, tableIn, afterRules, afterRefusals, judged, Judges}
-use Rattle.handover.specs.Front.{denied, saysArray, saysTable, unlessDenied, arrayRead, tableRead, ArrayPromise, TablePromise}
+use Rattle.handover.specs.Front.{Outcome, held, rule, says, IsHeld, arrayIn, sizesIn, tableIn, afterRules, judged, Judges}
+use Rattle.handover.specs.Front.{saysArray, saysTable, arrayRead, tableRead, ArrayPromise, TablePromise}
 use Rattle.handover.specs.Bodies.{verdictOf}
-use Rattle.handover.specs.Refusals.{ArrayNumber, TableNumber}
+use Rattle.handover.specs.Refusals.{Reply, done, refused, unlessRefused, ArrayNumber, TableNumber}
 use Rattle.handover.proofs.Refusals.{Small, array-small, files-small}
 
 -- ---- the readers
 
-reading-listed : (P : ℕ → Type 0) (x : Found F.Refusal) (xs : List ℕ) → Small P x → (n p : ℕ) → unlessDenied x xs ≡ denied n p → P n
-reading-listed P clear xs s n p e = let z : true ≡ false = cc in absurd (true≢false z)
-reading-listed P (hit r) xs s n p e = let z : r .number ≡ n = cc in subst P z (s r refl .0)
+-- a refusal is one of those that were looked for
+reply-listed : {A : Type 0} (P : ℕ → Type 0) (x : Found F.Refusal) (a : A) → Small P x → (n p : ℕ) → unlessRefused x a ≡ refused n p → P n
+reply-listed P clear a s n p e = let z : true ≡ false = cc in absurd (true≢false z)
+reply-listed P (hit r) a s n p e = let z : r .number ≡ n = cc in subst P z (s r refl .0)
 
-array-says : (x : Found F.Refusal) (t : Trailer) → saysArray (answer x t) ≡ unlessDenied x (t .start ∷ t .nodes ∷ t .names ∷ t .sum ∷ [])
+array-says : (x : Found F.Refusal) (t : Trailer) → saysArray (answer x t) ≡ unlessRefused x t
 array-says clear t = refl
 array-says (hit r) t = refl
 
@@ -54,9 +55,9 @@ pub array-promise : (f : List ℕ) (x : ArrayAnswer) → x ≡ readArray f → A
 unfolding readArray arrayRead
 array-promise f x e =
     let a : saysArray x ≡ arrayRead f = ap saysArray e ∙ array-says (arrayRefusal f) (trailerOf f) in
-    record { answers = a; listed = λ n p q. reading-listed ArrayNumber (arrayRefusal f) _ (array-small f) n p (sym a ∙ q) }
+    record { answers = a; listed = λ n p q. reply-listed ArrayNumber (arrayRefusal f) _ (array-small f) n p (sym a ∙ q) }
 
-table-says : (x : Found F.Refusal) (z : Sizes) → saysTable (T.answer x z) ≡ unlessDenied x (z .nodes ∷ z .names ∷ z .balances ∷ z .claims ∷ [])
+table-says : (x : Found F.Refusal) (z : Sizes) → saysTable (T.answer x z) ≡ unlessRefused x z
 table-says clear z = refl
 table-says (hit r) z = refl
 
@@ -64,20 +65,14 @@ pub table-promise : (f s : List ℕ) (x : TableAnswer) → x ≡ readTable f s �
 unfolding readTable tableRead
 table-promise f s x e =
     let a : saysTable x ≡ tableRead f s = ap saysTable e ∙ table-says (filesRefusal f s) (sizesIn f s) in
-    record { answers = a; listed = λ n p q. reading-listed TableNumber (filesRefusal f s) _ (files-small f s) n p (sym a ∙ q) }
+    record { answers = a; listed = λ n p q. reply-listed TableNumber (filesRefusal f s) _ (files-small f s) n p (sym a ∙ q) }
 
 -- ---- the checker
 
 -- a refusal by the checker is one of the readers'
 judged-listed : (f s : List ℕ) (n p : ℕ) → judged f s ≡ refused n p → TableNumber n
 unfolding judged
-judged-listed f s n p = go (filesRefusal f s) (files-small f s) (verdict (arrayIn f) (tableIn f s))
-  where
-    go : (x : Found F.Refusal) → Small TableNumber x → (y : M.Verdict)
-        → afterRefusals x (afterRules y (let z = sizesIn f s in held (z .nodes) (z .names) (z .balances) (z .claims))) ≡ refused n p → TableNumber n
-    go clear h clear e = let z : true ≡ false = cc in absurd (true≢false z)
-    go clear h (hit b) e = let z : true ≡ false = cc in absurd (true≢false z)
-    go (hit r) h y e = let z : r .number ≡ n = cc in subst TableNumber z (h r refl .0)
+judged-listed f s n p e = reply-listed TableNumber (filesRefusal f s) _ (files-small f s) n p e
 
 -- what refusal 21 leaves of the claims: each names a balance of the table
 claims-fit : (f : List ℕ) (t : Trailer) (s : List ℕ) (z : Sizes) → IsTable f t s z → ClaimsFit (tableOf s z)
@@ -89,9 +84,9 @@ claims-fit f t s z table c h =
     ltb-true _ _ (and-split (isAgent (nodeAt (arrayOf f t) (u16At s at))) (ltb (u16At s (at + 4)) (z .balances)) named .1)
 
 -- the broken rule that an answer names, if any
-abbrev broken : Said → M.Verdict
-broken (held m n k q) = clear
-broken (rule r figures) = hit (at r figures)
+abbrev broken : Reply Outcome → M.Verdict
+broken (done (held z)) = clear
+broken (done (rule r figures)) = hit (at r figures)
 broken (refused n p) = clear
 
 module _ (f s : List ℕ) where
@@ -108,10 +103,10 @@ module _ (f s : List ℕ) where
       }
 
   module _ (clear′ : filesRefusal f s ≡ clear) (read : IsRead f (trailerOf f)) (table : IsTable f (trailerOf f) s (sizesIn f s)) where
-    abbrev sized : Said
-    sized = let z = sizesIn f s in held (z .nodes) (z .names) (z .balances) (z .claims)
+    abbrev sized : Outcome
+    sized = held (sizesIn f s)
 
-    ruled-says : (x : Ruling) → afterRules (ruled x) sized ≡ says (verdictOf x (sizesIn f s))
+    ruled-says : (x : Ruling) → done (afterRules (ruled x) sized) ≡ says (verdictOf x (sizesIn f s))
     ruled-says R.Held = refl
     ruled-says (R.Rule1 o) = refl
     ruled-says (R.Rule2 k) = refl
@@ -160,12 +155,14 @@ module _ (f s : List ℕ) where
       let found′ : ruled x ≡ verdict (arrayIn f) (tableIn f s) =
       found ∙ ap (λ u. verdict (arrayOf f u) (tableOf s z)) (sym (p .1)) ∙ ap (λ u. verdict (arrayIn f) (tableOf s u)) size′ in
       subst (λ u. Judges f s (verdictOf x u)) (sym size′)
-      (ruled-judges (andThen-join (arrayRefusal f) _ (p .0) none′) (subst (IsRead f) (sym (p .1)) (read-is f t e)) (passed-table f (trailerOf f) s none′) x found′)
+      (ruled-judges (andThen-join (arrayRefusal f) _ (p .0) none′) (subst (IsRead f) (sym (p .1)) (read-is f t e))
+      (passed-table f (trailerOf f) s none′) x found′)
 
   pub array-refused : (r : Refusal) → readArray f ≡ A.Refused r → Judges f s (Refused r)
   array-refused r e = refused-judges r (hit-andThen (arrayRefusal f) _ _ (read-refuses f r e))
 
-  pub table-refused : (t : Trailer) (r : Refusal) → readArray f ≡ A.Read t → hit record { number = r .number; place = r .place } ≡ tableRefusal f t s → Judges f s (Refused r)
+  pub table-refused : (t : Trailer) (r : Refusal) → readArray f ≡ A.Read t → hit record { number = r .number; place = r .place } ≡ tableRefusal f t s
+      → Judges f s (Refused r)
   table-refused t r e found =
       let p = read-passes f t e in
       refused-judges r (clear-andThen (arrayRefusal f) (tableRefusal f (trailerOf f) s) (p .0) ∙ ap (λ u. tableRefusal f u s) (p .1) ∙ sym found)

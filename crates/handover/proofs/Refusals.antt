@@ -79,7 +79,7 @@ pub array-small : (s : List ℕ) → Small ArrayNumber (arrayRefusal s)
 array-small s =
     let t = trailerOf s in
     andThen-small ArrayNumber (refusal1 s) _ (unplaced ArrayNumber 1 _ (omega arith, omega arith)) λ _.
-    andThen-small ArrayNumber (refusal2 s) _ (unplaced ArrayNumber 2 _ (omega arith, omega arith)) λ _.
+    andThen-small ArrayNumber (refusal2 t) _ (unplaced ArrayNumber 2 _ (omega arith, omega arith)) λ _.
     andThen-small ArrayNumber (refusal3 t) _ (unplaced ArrayNumber 3 _ (omega arith, omega arith)) λ fits.
     andThen-small ArrayNumber (refusal4 s t) _ (unplaced ArrayNumber 4 _ (omega arith, omega arith)) λ _.
     andThen-small ArrayNumber (refusal5 s t) _ (unplaced ArrayNumber 5 _ (omega arith, omega arith)) λ _.
@@ -93,7 +93,7 @@ unfolding refusal19 refusal20 refusal21
 table-small f t s n =
     let z = sizesOf t s in
     andThen-small TableNumber (refusal13 s) _ (unplaced TableNumber 13 _ (omega arith, omega arith)) λ _.
-    andThen-small TableNumber (refusal14 s) _ (unplaced TableNumber 14 _ (omega arith, omega arith)) λ _.
+    andThen-small TableNumber (refusal14 z) _ (unplaced TableNumber 14 _ (omega arith, omega arith)) λ _.
     andThen-small TableNumber (refusal15 z) _ (unplaced TableNumber 15 _ (omega arith, omega arith)) λ fits.
     andThen-small TableNumber (refusal16 s z) _ (unplaced TableNumber 16 _ (omega arith, omega arith)) λ _.
     andThen-small TableNumber (refusal17 s) _ (unplaced TableNumber 17 _ (omega arith, omega arith)) λ _.

@@ -15,7 +15,10 @@ use Rattle.model.specs.Memory as M
 use Rattle.model.specs.Memory.{Memory, memory, configOf, formed, refusal22, refusal23, Result, stops, leaves, startIn, stepIn, walkIn, try}
 use Rattle.model.specs.Memory.{markerMade, Next, moved, nextIn, resumed, standsFor, Starts, Follows, Walks, Ends, Tells}
 use Rattle.arrays.specs.File.{arrayRefusal}
+use Rattle.lent.specs.declared.Counts.{Counts}
 use Rattle.engine.specs.declared.Allowance.{Allowance}
+use Rattle.engine.specs.declared.Turn.{Turn}
+use Rattle.engine.specs.declared.Walk.{Walk}
 use Rattle.handover.specs.declared.StartAnswer.{StartAnswer}
 use Rattle.handover.specs.declared.StartAnswer.the-variants as Start
 use Rattle.handover.specs.declared.StepAnswer.{StepAnswer}
@@ -25,62 +28,65 @@ use Rattle.handover.specs.declared.StrideAnswer.the-variants as Stride
 use Rattle.handover.specs.declared.WalkAnswer.{WalkAnswer}
 use Rattle.handover.specs.declared.WalkAnswer.the-variants as Walk
 use Rattle.handover.specs.Front.{arrayIn}
-use Rattle.handover.specs.Refusals.{StartNumber, StepNumber, WalkNumber}
+use Rattle.handover.specs.Refusals.{Reply, done, refused, StartNumber, StepNumber, WalkNumber}
 
 -- ---- answers in 01's numbers
 
--- the counts of threads and markers after a start or a step; the receiver's agent, the sender's agent, the marker number of the
--- receiver's continuation, the counts after a step of the walk, the steps allowed and those left; an ending without a step, and the steps
--- made before it; how a walk ended, the steps made and the counts; or a refusal's number and place
-pub data Reply : Type 0 where
-  counts : ℕ → ℕ → Reply
-  turned : ℕ → ℕ → ℕ → ℕ → ℕ → ℕ → ℕ → Reply
-  ended : Ending → ℕ → Reply
-  walked : Ending → ℕ → ℕ → ℕ → Reply
-  refused : ℕ → ℕ → Reply
-
-abbrev pub saysStart : StartAnswer → Reply
-saysStart (Start.Started k) = counts k 0
+-- the thread count after a start
+abbrev pub saysStart : StartAnswer → Reply ℕ
+saysStart (Start.Started k) = done k
 saysStart (Start.Refused r) = refused (r .number) (r .place)
 
-abbrev pub saysStep : StepAnswer → Reply
-saysStep (Step.Stepped k j) = counts k j
+-- the counts of threads and markers after a step
+abbrev pub saysStep : StepAnswer → Reply Counts
+saysStep (Step.Stepped n) = done n
 saysStep (Step.Refused r) = refused (r .number) (r .place)
 
-abbrev pub saysStride : StrideAnswer → Reply
-saysStride (Stride.Made t) = turned (t .receiver) (t .sender) (t .marker) (t .threads) (t .markers) (t .allowance .allowed) (t .allowance .left)
-saysStride (Stride.Ended e n) = ended e n
-saysStride (Stride.Refused r) = refused (r .number) (r .place)
-
-abbrev pub saysWalk : WalkAnswer → Reply
-saysWalk (Walk.Walked w) = walked (w .ending) (w .steps) (w .threads) (w .markers)
+-- how a walk ended, the steps made and the counts
+abbrev pub saysWalk : WalkAnswer → Reply Walk
+saysWalk (Walk.Walked w) = done w
 saysWalk (Walk.Refused r) = refused (r .number) (r .place)
+
+-- a step of a walk as it is told, or an ending without a step and the steps made before it
+pub data Told : Type 0 where
+  turned : Turn → Told
+  ended : Ending → ℕ → Told
+
+abbrev pub saysStride : StrideAnswer → Reply Told
+saysStride (Stride.Made t) = done (turned t)
+saysStride (Stride.Ended e n) = done (ended e n)
+saysStride (Stride.Refused r) = refused (r .number) (r .place)
 
 -- ---- what a call leaves: its reply, and every word of both lists
 
-pub record Left : Type 0 where
-  pub reply : Reply
+pub record Left (A : Type 0) : Type 0 where
+  pub reply : Reply A
   pub threads : List ℕ
   pub markers : List ℕ
 
-abbrev pub left : Reply → List ℕ → List ℕ → Left
-left r l ml = record { reply = r; threads = l; markers = ml }
+module _ {A : Type 0} where
+  abbrev pub left : Reply A → List ℕ → List ℕ → Left A
+  left r l ml = record { reply = r; threads = l; markers = ml }
 
--- a refusal leaves the lists as they were
-abbrev pub unchanged : Reply → Memory → Left
-unchanged r m = left r (m .threads) (m .markers)
+  -- a refusal leaves the lists as they were
+  abbrev pub unchanged : Reply A → Memory → Left A
+  unchanged r m = left r (m .threads) (m .markers)
 
--- the first refusal of 1 to 12, 22 and, for step, walk and stride, 23; else what the call does
-abbrev pub unless : Found F.Refusal → Memory → Left → Left
-unless clear m x = x
-unless (hit r) m x = unchanged (refused (r .number) (r .place)) m
+  -- the first refusal of 1 to 12, 22 and, for step, walk and stride, 23; else what the call does
+  abbrev pub unless : Found F.Refusal → Memory → Left A → Left A
+  unless clear m x = x
+  unless (hit r) m x = unchanged (refused (r .number) (r .place)) m
 
-abbrev pub resultLeft : Memory → Result → Left
-resultLeft m (stops n) = unchanged (refused n 0) m
-resultLeft m (leaves n) = left (counts (n .threadCount) (n .markerCount)) (n .threads) (n .markers)
+  -- a start or a step, of which f is told
+  abbrev pub resultLeft : (Memory → A) → Memory → Result → Left A
+  resultLeft f m (stops n) = unchanged (refused n 0) m
+  resultLeft f m (leaves n) = left (done (f n)) (n .threads) (n .markers)
 
-abbrev pub walkLeft : M.Walked → Left
-walkLeft w = left (walked (w .ending) (w .steps) (w .left .threadCount) (w .left .markerCount)) (w .left .threads) (w .left .markers)
+abbrev pub countsIn : Memory → Counts
+countsIn m = record { threads = m .threadCount; markers = m .markerCount }
+
+abbrev pub walkLeft : M.Walked → Left Walk
+walkLeft w = left (done record { ending = w .ending; steps = w .steps; counts = countsIn (w .left) }) (w .left .threads) (w .left .markers)
 
 -- "start 1 to 12, 22, 28, step 1 to 12 and 22 to 29, walk 1 to 12, 22, 23"
 abbrev pub startRefusal : List ℕ → List ℕ → Found F.Refusal
@@ -89,33 +95,38 @@ startRefusal f choices = andThen (arrayRefusal f) (refusal22 choices)
 abbrev pub lentRefusal : List ℕ → List ℕ → Memory → Found F.Refusal
 lentRefusal f choices m = andThen (startRefusal f choices) (refusal23 (arrayIn f) m)
 
-unfoldable pub startOf : List ℕ → List ℕ → Memory → Left
-startOf f choices m = unless (startRefusal f choices) m (resultLeft m (startIn (arrayIn f) (choicesOf choices) m))
+unfoldable pub startOf : List ℕ → List ℕ → Memory → Left ℕ
+startOf f choices m = unless (startRefusal f choices) m (resultLeft (λ n. n .threadCount) m (startIn (arrayIn f) (choicesOf choices) m))
 
-unfoldable pub stepOf : List ℕ → List ℕ → Memory → ℕ → ℕ → Left
-stepOf f choices m r s = unless (lentRefusal f choices m) m (resultLeft m (stepIn (arrayIn f) m (try (choicesOf choices) r s)))
+unfoldable pub stepOf : List ℕ → List ℕ → Memory → ℕ → ℕ → Left Counts
+stepOf f choices m r s = unless (lentRefusal f choices m) m (resultLeft countsIn m (stepIn (arrayIn f) m (try (choicesOf choices) r s)))
 
-unfoldable pub walkOf : List ℕ → List ℕ → Memory → ℕ → Left
+unfoldable pub walkOf : List ℕ → List ℕ → Memory → ℕ → Left Walk
 walkOf f choices m allowed = unless (lentRefusal f choices m) m (walkLeft (walkIn (arrayIn f) (choicesOf choices) allowed m))
 
 -- the walk's next step, told: the two agents of the pair, the marker number, the counts after it, and one step less left; or its ending, with
 -- the steps made before it, which are those allowed less those left
-unfoldable pub nextLeft : Array → Memory → Allowance → Next → Left
-nextLeft a m w (M.ended x) = unchanged (ended x (w .allowed - w .left)) m
+unfoldable pub nextLeft : Array → Memory → Allowance → Next → Left Told
+nextLeft a m w (M.ended x) = unchanged (done (ended x (w .allowed - w .left))) m
 nextLeft a m w (moved u n) =
-    let r = getD (configOf a m) (u .receiver) nobody in
-    let s = getD (configOf a m) (u .sender) nobody in
-    left (turned (r .agent) (s .agent) (markerMade a m u) (n .threadCount) (n .markerCount) (w .allowed) (w .left - 1)) (n .threads) (n .markers)
+    let told : Turn = record {
+      receiver = getD (configOf a m) (u .receiver) nobody .agent;
+      sender = getD (configOf a m) (u .sender) nobody .agent;
+      marker = markerMade a m u;
+      counts = countsIn n;
+      allowance = record { allowed = w .allowed; left = w .left - 1 };
+    } in
+    left (done (turned told)) (n .threads) (n .markers)
 
-unfoldable pub strideOf : List ℕ → List ℕ → Memory → Allowance → Left
+unfoldable pub strideOf : List ℕ → List ℕ → Memory → Allowance → Left Told
 strideOf f choices m w = unless (lentRefusal f choices m) m (nextLeft (arrayIn f) m w (nextIn (arrayIn f) (choicesOf choices) (w .left) m))
 
 -- a walk followed to its end by strides, each lent the lists, the counts and the allowance that the last one left: the number of steps told,
 -- then the ending, the steps made as they are told with it, and the lists
 pub data Followed (f choices : List ℕ) : Memory → Allowance → ℕ → Ending → ℕ → Memory → Type 0 where
-  over : (m : Memory) (w : Allowance) (x : Ending) (s : ℕ) → strideOf f choices m w ≡ unchanged (ended x s) m → Followed f choices m w 0 x s m
-  then : (m : Memory) (w : Allowance) (r q y k j p l : ℕ) (ts ms : List ℕ) → strideOf f choices m w ≡ left (turned r q y k j p l) ts ms
-      → (n : ℕ) (x : Ending) (s : ℕ) (e : Memory) → Followed f choices (memory ts k ms j) record { allowed = p; left = l } n x s e
+  over : (m : Memory) (w : Allowance) (x : Ending) (s : ℕ) → strideOf f choices m w ≡ unchanged (done (ended x s)) m → Followed f choices m w 0 x s m
+  then : (m : Memory) (w : Allowance) (t : Turn) (ts ms : List ℕ) → strideOf f choices m w ≡ left (done (turned t)) ts ms
+      → (n : ℕ) (x : Ending) (s : ℕ) (e : Memory) → Followed f choices (memory ts (t .counts .threads) ms (t .counts .markers)) (t .allowance) n x s e
       → Followed f choices m w (suc n) x s e
 
 -- ---- the whole promise of each entry
@@ -147,7 +158,8 @@ pub record WalkPromise (f choices : List ℕ) (m : Memory) (allowed : ℕ) (x : 
       (standsFor (arrayIn f) (walkIn (arrayIn f) (choicesOf choices) allowed m .left))
   -- and the ending is quiet without a ready pair, spent with one and all allowed steps made, full with one that the lists cannot hold
   pub ends : lentRefusal f choices m ≡ clear
-      → Ends (arrayIn f) (choicesOf choices) allowed (walkIn (arrayIn f) (choicesOf choices) allowed m) (walkIn (arrayIn f) (choicesOf choices) allowed m .ending)
+      → Ends (arrayIn f) (choicesOf choices) allowed (walkIn (arrayIn f) (choicesOf choices) allowed m)
+      (walkIn (arrayIn f) (choicesOf choices) allowed m .ending)
   pub formed : lentRefusal f choices m ≡ clear → formed (arrayIn f) (walkIn (arrayIn f) (choicesOf choices) allowed m .left) ≡ true
   pub listed : (n p : ℕ) → saysWalk x ≡ refused n p → WalkNumber n
 
@@ -158,8 +170,9 @@ pub record StridePromise (f choices : List ℕ) (m : Memory) (w : Allowance) (x 
       ≡ resumed (arrayIn f) (choicesOf choices) (w .left) m (nextIn (arrayIn f) (choicesOf choices) (w .left) m)
   -- followed to its end from an allowance that is whole, it tells what the walk answers, and as many steps as it says
   pub whole : w .left ≡ w .allowed → (n : ℕ) (x : Ending) (s : ℕ) (e : Memory) → Followed f choices m w n x s e
-      → (walkOf f choices m (w .allowed) ≡ left (walked x s (e .threadCount) (e .markerCount)) (e .threads) (e .markers)) × (n ≡ s)
-  -- in the calculus, where nothing is refused: the ending as the walk's; or the step of the first ready pair, what it leaves, and the marker of its continuation
+      → (walkOf f choices m (w .allowed) ≡ walkLeft record { ending = x; steps = s; left = e }) × (n ≡ s)
+  -- in the calculus, where nothing is refused: the ending as the walk's; or the step of the first ready pair, what it leaves, and the marker of
+  -- its continuation
   pub follows : lentRefusal f choices m ≡ clear
       → Tells (arrayIn f) (choicesOf choices) (w .left) m (nextIn (arrayIn f) (choicesOf choices) (w .left) m)
   -- a step keeps 23

@@ -4,25 +4,25 @@ use Prim.Native.Nat.{ℕ, _+_, _-_, _/_, _%_}
 use mathlib.Core.Path.{_≡_}
 use mathlib.Core.List.{List, [], _∷_, _++_}
 use lib.ListN.{length, replicate}
-use Rattle.wire.specs.Numbers.{wordSum}
+use Rattle.wire.specs.Numbers.{wordSum, le16, le32, sealed}
+use Rattle.records.specs.declared.Trailer.{Trailer}
+use Rattle.arrays.specs.File.{pis1}
+use Rattle.layout.specs.declared.Sizes.{Sizes}
+use Rattle.layout.specs.Table.{pic1}
 use Rattle.model.specs.declared.Ending.the-variants.{Quiet, Spent, Full}
 use Rattle.model.specs.Memory.{Memory, memory}
 use Rattle.engine.specs.declared.Allowance.{Allowance}
+use Rattle.lent.specs.declared.Counts.{Counts}
+use Rattle.engine.specs.declared.Turn.{Turn}
 use Rattle.engine.specs.declared.Walk.{Walk}
-use Rattle.handover.specs.Refusals.{ArrayNumber, TableNumber, StartNumber, StepNumber, WalkNumber}
-use Rattle.handover.specs.Front.{Said, held, rule, Reading, read}
+use Rattle.handover.specs.Refusals.{done, refused, ArrayNumber, TableNumber, StartNumber, StepNumber, WalkNumber}
+use Rattle.handover.specs.Front.{Outcome, held, rule}
 use Rattle.handover.specs.Engine as E
-use Rattle.handover.specs.Engine.{Left, left, startOf, stepOf, strideOf, WalkPromise}
+use Rattle.handover.specs.Engine.{Told, turned, Left, left, startOf, stepOf, strideOf, WalkPromise}
 use Rattle.handover.specs.declared.WalkAnswer.{WalkAnswer}
 use Rattle.handover.specs.declared.WalkAnswer.the-variants.{Walked}
 
 -- ---- writing files
-
-abbrev pub le16 : ℕ → List ℕ
-le16 n = n % 256 ∷ n / 256 % 256 ∷ []
-
-abbrev pub le32 : ℕ → List ℕ
-le32 n = n % 256 ∷ n / 256 % 256 ∷ n / 65536 % 256 ∷ n / 16777216 % 256 ∷ []
 
 abbrev pub join : List (List ℕ) → List ℕ
 join [] = []
@@ -55,22 +55,14 @@ passing kind x y l = record16 kind 1 l 0 x y
 abbrev pub agent : ℕ → ℕ → List ℕ → ℕ → List ℕ
 agent kind x ys l = kind ∷ length ys ∷ (le16 l ++ (le16 0 ++ (x ∷ 0 ∷ (ys ++ replicate (8 - length ys) 0))))
 
--- a word sum, and the letters
-abbrev pub summed : List ℕ → ℕ → List ℕ → List ℕ
-summed s sum letters = s ++ (le32 sum ++ letters)
-
--- the sum of all words so far, and the letters
-abbrev pub sealed : List ℕ → List ℕ → List ℕ
-sealed s letters = summed s (wordSum s (length s / 4)) letters
-
 -- an array file with a remark and a word sum that is given
 abbrev pub remarked : List ℕ → ℕ → ℕ → List (List ℕ) → List ℕ
 remarked remark sum names records =
-    summed (remark ++ (join records ++ (le32 (length remark) ++ (le16 (length records) ++ le16 names)))) sum (80 ∷ 73 ∷ 83 ∷ 49 ∷ [])
+    remark ++ (join records ++ (le32 (length remark) ++ (le16 (length records) ++ (le16 names ++ (le32 sum ++ le32 pis1)))))
 
 -- an array file without a remark
 abbrev pub pis : ℕ → List (List ℕ) → List ℕ
-pis names records = sealed (join records ++ (le32 0 ++ (le16 (length records) ++ le16 names))) (80 ∷ 73 ∷ 83 ∷ 49 ∷ [])
+pis names records = sealed (join records ++ (le32 0 ++ (le16 (length records) ++ le16 names))) pis1
 
 -- the word sum of such a file
 abbrev pub sumOf : ℕ → List (List ℕ) → ℕ
@@ -102,7 +94,7 @@ balanced sum rows balances claims =
     let b = join balances in
     let c = join claims in
     let starts = le32 0 ++ (le32 (length r) ++ le32 (length r + length b)) in
-    sealed (r ++ (b ++ (c ++ (starts ++ (le16 (length balances) ++ (le16 (length claims) ++ le32 sum)))))) (80 ∷ 73 ∷ 67 ∷ 49 ∷ [])
+    sealed (r ++ (b ++ (c ++ (starts ++ (le16 (length balances) ++ (le16 (length claims) ++ le32 sum)))))) pic1
 
 -- one of one balance (bound, weights and padding)
 abbrev pub pic : ℕ → List (List ℕ) → ℕ → List ℕ → List (List ℕ) → List ℕ
@@ -133,18 +125,22 @@ twoBalances =
 
 -- ---- the rows: array file, table file, and what 01 says
 
+-- M, N, K and Q of a table lettered PIC1
+abbrev pub sizes : ℕ → ℕ → ℕ → ℕ → Sizes
+sizes m n k q = record { nodes = m; names = n; balances = k; claims = q; form = 1 }
+
 pub record Case : Type 0 where
   pub array : List ℕ
   pub table : List ℕ
-  pub says : Said
+  pub says : Outcome
 
-abbrev pub case : List ℕ → List ℕ → Said → Case
+abbrev pub case : List ℕ → List ℕ → Outcome → Case
 case f s x = record { array = f; table = s; says = x }
 
 abbrev pub cases : List Case
 cases =
     -- *A is accepted. For A: `held 8 3 1 1`.
-    case (pis 3 nodesA) (tableA 2 2 1 1 1) (held 8 3 1 1)
+    case (pis 3 nodesA) (tableA 2 2 1 1 1) (held (sizes 8 3 1 1))
     -- *A with most 0: rule 5, claim 0.
     ∷ case (pis 3 nodesA) (tableA 2 2 1 1 0) (rule 5 (0 ∷ []))
     -- *A, bound 0: rule 2, balance 0.
@@ -156,11 +152,11 @@ cases =
     -- *A, w6 = 2: rule 4 at 5, 3, 0.
     ∷ case (pis 3 nodesA) (tableA 2 2 1 2 1) (rule 4 (5 ∷ 3 ∷ 0 ∷ []))
     -- *B, w2 = w5 = 1, bound 1: accepted. M is 7, so the weights are padded.
-    ∷ case (pis 1 nodesB) (pic (sumOf 1 nodesB) (row 1 ∷ []) 1 (0 ∷ 0 ∷ 1 ∷ 0 ∷ 0 ∷ 1 ∷ 0 ∷ 0 ∷ []) []) (held 7 1 1 0)
+    ∷ case (pis 1 nodesB) (pic (sumOf 1 nodesB) (row 1 ∷ []) 1 (0 ∷ 0 ∷ 1 ∷ 0 ∷ 0 ∷ 1 ∷ 0 ∷ 0 ∷ []) []) (held (sizes 7 1 1 0))
     -- *B, only w5 = 1, bound 1: rule 4 at 4, 2, 0.
     ∷ case (pis 1 nodesB) (pic (sumOf 1 nodesB) (row 1 ∷ []) 1 (0 ∷ 0 ∷ 0 ∷ 0 ∷ 0 ∷ 1 ∷ 0 ∷ 0 ∷ []) []) (rule 4 (4 ∷ 2 ∷ 0 ∷ []))
     -- *C, w2 = w4 = 1, bound 1: accepted, pair not live.
-    ∷ case (pis 1 nodesC) (pic (sumOf 1 nodesC) (row 1 ∷ []) 1 (0 ∷ 0 ∷ 1 ∷ 0 ∷ 1 ∷ 0 ∷ []) []) (held 6 1 1 0)
+    ∷ case (pis 1 nodesC) (pic (sumOf 1 nodesC) (row 1 ∷ []) 1 (0 ∷ 0 ∷ 1 ∷ 0 ∷ 1 ∷ 0 ∷ []) []) (held (sizes 6 1 1 0))
     -- A with a second balance, bound 70,000: 299 × 234 does not exceed it. In balance 0 claim 1 would keep rule 5.
     ∷ case (pis 3 nodesA) twoBalances (rule 5 (1 ∷ []))
     ∷ []
@@ -174,12 +170,16 @@ remark = 255 ∷ 255 ∷ 255 ∷ 255 ∷ 1 ∷ 2 ∷ 3 ∷ 4 ∷ []
 abbrev pub remarkedB : List ℕ
 remarkedB = remarked remark 68485668 1 nodesB
 
--- M, N, K and Q, of a table that breaks a rule; a trailer's numbers: start, M, N, word sum
-abbrev pub tablesRead : List (List ℕ × List ℕ × Reading)
-tablesRead = (pis 3 nodesA, twoBalances, read (8 ∷ 3 ∷ 2 ∷ 4 ∷ [])) ∷ []
+-- M, N, K and Q, of a table that breaks a rule; a trailer's numbers
+abbrev pub tablesRead : List (List ℕ × List ℕ × Sizes)
+tablesRead = (pis 3 nodesA, twoBalances, sizes 8 3 2 4) ∷ []
 
-abbrev pub arraysRead : List (List ℕ × Reading)
-arraysRead = (remarkedB, read (8 ∷ 7 ∷ 1 ∷ 68485668 ∷ [])) ∷ []
+abbrev pub arraysRead : List (List ℕ × Trailer)
+arraysRead = (remarkedB, record { start = 8; nodes = 7; names = 1; sum = 68485668; form = 1 }) ∷ []
+
+-- the letters that the files end with: P, I, S, 1 and P, I, C, 1
+abbrev pub Letters : Type 0
+Letters = (le32 pis1 ≡ 80 ∷ 73 ∷ 83 ∷ 49 ∷ []) × (le32 pic1 ≡ 80 ∷ 73 ∷ 67 ∷ 49 ∷ [])
 
 -- ---- the engine: a call, and what it answers and leaves
 
@@ -237,29 +237,35 @@ steppedE = four ++ (ten ++ (five ++ (7 ∷ [])))
 abbrev pub entriesE : List ℕ
 entriesE = 4 ∷ 3 ∷ 0 ∷ 0 ∷ 4 ∷ 10 ∷ 0 ∷ 0 ∷ 9 ∷ []
 
+abbrev pub counts : ℕ → ℕ → Counts
+counts k j = record { threads = k; markers = j }
+
+-- one step told: agents 4 and 3, marker 1, 5 threads, 2 markers, 6 steps left of 300
+abbrev pub toldE : Turn
+toldE = record { receiver = 4; sender = 3; marker = 1; counts = counts 5 2; allowance = record { allowed = 300; left = 6 } }
+
 pub data Call : Type 0 where
-  start : List ℕ → List ℕ → List ℕ → Left → Call
-  step : List ℕ → List ℕ → Memory → ℕ → ℕ → Left → Call
-  stride : List ℕ → List ℕ → Memory → Allowance → Left → Call
+  start : List ℕ → List ℕ → List ℕ → Left ℕ → Call
+  step : List ℕ → List ℕ → Memory → ℕ → ℕ → Left Counts → Call
+  stride : List ℕ → List ℕ → Memory → Allowance → Left Told → Call
 
 -- what a row says
-abbrev pub Leaves : Call → Type 0
-Leaves (start f choices l x) = startOf f choices (memory l 0 [] 0) ≡ x
-Leaves (step f choices m r s x) = stepOf f choices m r s ≡ x
-Leaves (stride f choices m w x) = strideOf f choices m w ≡ x
+abbrev pub Answered : Call → Type 0
+Answered (start f choices l x) = startOf f choices (memory l 0 [] 0) ≡ x
+Answered (step f choices m r s x) = stepOf f choices m r s ≡ x
+Answered (stride f choices m w x) = strideOf f choices m w ≡ x
 
 abbrev pub calls : List Call
 calls =
-    start (pis 5 nodesE) toRight (replicate 15 7) (left (E.counts 2 0) (wordsE ++ (7 ∷ [])) [])
+    start (pis 5 nodesE) toRight (replicate 15 7) (left (done 2) (wordsE ++ (7 ∷ [])) [])
     -- B with a second name, which nothing binds: 11 at name 1
-    ∷ start (pis 2 nodesB) toLeft (7 ∷ 7 ∷ []) (left (E.refused 11 1) (7 ∷ 7 ∷ []) [])
-    ∷ step (pis 5 nodesE) toRight startedE 1 0 (left (E.counts 3 1) steppedE (4 ∷ 3 ∷ 0 ∷ 0 ∷ 9 ∷ []))
-    -- the same step beside two threads of agent 5, its marker listed, in a walk of 300 steps with 7 left, told: agents 4 and 3, marker 1, 5 threads,
-    -- 2 markers, 6 steps left
+    ∷ start (pis 2 nodesB) toLeft (7 ∷ 7 ∷ []) (left (refused 11 1) (7 ∷ 7 ∷ []) [])
+    ∷ step (pis 5 nodesE) toRight startedE 1 0 (left (done (counts 3 1)) steppedE (4 ∷ 3 ∷ 0 ∷ 0 ∷ 9 ∷ []))
+    -- the same step beside two threads of agent 5, its marker listed, in a walk of 300 steps with 7 left
     ∷ stride (pis 5 nodesE) toRight (memory (wordsE ++ (five ++ (five ++ replicate 8 7))) 4 entriesE 2) record { allowed = 300; left = 7 }
-    (left (E.turned 4 3 1 5 2 300 6) (four ++ (five ++ (five ++ (ten ++ (five ++ (7 ∷ [])))))) entriesE)
+    (left (done (turned toldE)) (four ++ (five ++ (five ++ (ten ++ (five ++ (7 ∷ [])))))) entriesE)
     -- B with a ready pair and none of 300 steps left
-    ∷ stride (pis 1 nodesB) toLeft (startedB []) record { allowed = 300; left = 0 } (left (E.ended Spent 300) (startedB [] .threads) [])
+    ∷ stride (pis 1 nodesB) toLeft (startedB []) record { allowed = 300; left = 0 } (left (done (E.ended Spent 300)) (startedB [] .threads) [])
     ∷ []
 
 -- ---- the walk's own answer: whatever answer has the promise on these files and lists is this one
@@ -279,11 +285,11 @@ Answers c = (x : WalkAnswer) (l ml : List ℕ) → WalkPromise (c .array) toLeft
 abbrev pub endings : List Ended
 endings =
     -- A: quiet after its step
-    ended (pis 3 nodesA) startedA 5 record { ending = Quiet; steps = 1; threads = 1; markers = 0 }
+    ended (pis 3 nodesA) startedA 5 record { ending = Quiet; steps = 1; counts = counts 1 0 }
     -- "B with 2 steps allowed: spent"
-    ∷ ended (pis 1 nodesB) (startedB (replicate 8 9)) 2 record { ending = Spent; steps = 2; threads = 2; markers = 2 }
+    ∷ ended (pis 1 nodesB) (startedB (replicate 8 9)) 2 record { ending = Spent; steps = 2; counts = counts 2 2 }
     -- B without room for a marker: full
-    ∷ ended (pis 1 nodesB) (startedB []) 2 record { ending = Full; steps = 0; threads = 2; markers = 0 }
+    ∷ ended (pis 1 nodesB) (startedB []) 2 record { ending = Full; steps = 0; counts = counts 2 0 }
     ∷ []
 
 -- ---- numbers that the entries do not refuse by: those next to the listed ones

@@ -1,8 +1,23 @@
--- The numbers that each entry may refuse by (01, "Refusals, in checking order"): "Table calls use 1 to 21, start 1 to 12, 22, 28, step 1
--- to 12 and 22 to 29, walk 1 to 12, 22, 23." The walk told step by step refuses as the walk does.
+-- Answers in 01's numbers: what a call did, or its refusal; and the numbers that each entry may refuse by (01, "Refusals, in checking
+-- order"): "Table calls use 1 to 21, start 1 to 12, 22, 28, step 1 to 12 and 22 to 29, walk 1 to 12, 22, 23." The walk told step by step
+-- refuses as the walk does.
 use Prim.Native.Nat.{ℕ, _≤_}
 use mathlib.Core.Path.{_≡_}
 use mathlib.Core.Logic.{_⊎_}
+use Rattle.laws.specs.Search.{Found, clear, hit}
+use Rattle.model.specs.Formed as F
+
+-- what a call did, or "its number and a place (0 where none is named)"
+pub data Reply (A : Type 0) : Type 0 where
+  done : A → Reply A
+  refused : ℕ → ℕ → Reply A
+
+-- the first refusal, else what the call did
+abbrev pub unlessRefused : {A : Type 0} → Found F.Refusal → A → Reply A
+unlessRefused clear x = done x
+unlessRefused (hit r) x = refused (r .number) (r .place)
+
+-- ---- the numbers
 
 -- "The array is checked before anything else in every call."
 abbrev pub ArrayNumber : ℕ → Type 0

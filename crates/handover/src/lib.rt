@@ -14,8 +14,8 @@
 //
 // The numbers that each may refuse by are in specs/Refusals.
 //
-// `check` takes about 240 KiB of stack, for the checker's own lists and their copies. `start`, `step`, `walk` and `stride` take up to about
-// 260 KiB (measured), for the table of free names, the marks of marker entries and a frame for each new, par and choice on the deepest path
+// `check` takes about 125 KiB of stack, for the checker's own lists. `start`, `step`, `walk` and `stride` take up to about
+// 240 KiB (measured), for the table of free names, the marks of marker entries and a frame for each new, par and choice on the deepest path
 // of one unfolding, at most 640.
 ghost use mathlib.Core.Path.{_≡_};
 ghost use mathlib.Core.List.{[]};
@@ -33,6 +33,7 @@ use engine::Turn;
 use engine::Walk;
 use engine::Walked;
 use layout::Sizes;
+use lent::Counts;
 use model::Ending;
 use records::Check;
 use records::Refusal;
@@ -59,7 +60,7 @@ pub enum StartAnswer {
 
 // The thread count and the marker count after a step, or the first refusal with its place.
 pub enum StepAnswer {
-    Stepped(usize, usize),
+    Stepped(Counts),
     Refused(Refusal),
 }
 
@@ -160,7 +161,7 @@ pub fn start(array: &[u8], choices: &[u8], threads: &mut [u32]) -> StartAnswer
             let fired = engine::start(array, t, choices, threads);
             match fired {
                 Fired::Stopped(number) => StartAnswer::Refused(numbered(number)),
-                Fired::Made(used, _noted, _marker) => StartAnswer::Started(used),
+                Fired::Made(counts, _marker) => StartAnswer::Started(counts.threads),
             }
         }
     }
@@ -171,13 +172,13 @@ pub fn step(
     array: &[u8],
     choices: &[u8],
     threads: &mut [u32],
-    thread_count: usize,
     markers: &mut [u16],
-    marker_count: usize,
+    counts: Counts,
     receiver: usize,
     sender: usize,
 ) -> StepAnswer
-    ensures { λ x. ⌜ StepPromise (now (array .entry)) (now (choices .entry)) (memory (now (threads .entry)) «thread_count» (now (markers .entry)) «marker_count»)
+    ensures { λ x. ⌜ StepPromise (now (array .entry)) (now (choices .entry))
+        (memory (now (threads .entry)) (counts .threads) (now (markers .entry)) (counts .markers))
         receiver sender x (now (threads .exit)) (now (markers .exit)) ⌝ }
 {
     let admitted = admit(array, choices);
@@ -189,15 +190,14 @@ pub fn step(
                 t,
                 choices,
                 threads,
-                thread_count,
                 markers,
-                marker_count,
+                counts,
                 receiver,
                 sender,
             );
             match fired {
                 Fired::Stopped(number) => StepAnswer::Refused(numbered(number)),
-                Fired::Made(used, noted, _marker) => StepAnswer::Stepped(used, noted),
+                Fired::Made(made, _marker) => StepAnswer::Stepped(made),
             }
         }
     }
@@ -208,28 +208,19 @@ pub fn walk(
     array: &[u8],
     choices: &[u8],
     threads: &mut [u32],
-    thread_count: usize,
     markers: &mut [u16],
-    marker_count: usize,
+    counts: Counts,
     allowed: u32,
 ) -> WalkAnswer
-    ensures { λ x. ⌜ WalkPromise (now (array .entry)) (now (choices .entry)) (memory (now (threads .entry)) «thread_count» (now (markers .entry)) «marker_count»)
+    ensures { λ x. ⌜ WalkPromise (now (array .entry)) (now (choices .entry))
+        (memory (now (threads .entry)) (counts .threads) (now (markers .entry)) (counts .markers))
         allowed x (now (threads .exit)) (now (markers .exit)) ⌝ }
 {
     let admitted = admit(array, choices);
     match admitted {
         ArrayAnswer::Refused(r) => WalkAnswer::Refused(r),
         ArrayAnswer::Read(t) => {
-            let walked = engine::walk_lists(
-                array,
-                t,
-                choices,
-                threads,
-                thread_count,
-                markers,
-                marker_count,
-                allowed,
-            );
+            let walked = engine::walk_lists(array, t, choices, threads, markers, counts, allowed);
             match walked {
                 Walked::Refused(number) => WalkAnswer::Refused(numbered(number)),
                 Walked::Walked(w) => WalkAnswer::Walked(w),
@@ -253,28 +244,19 @@ pub fn stride(
     array: &[u8],
     choices: &[u8],
     threads: &mut [u32],
-    thread_count: usize,
     markers: &mut [u16],
-    marker_count: usize,
+    counts: Counts,
     allowance: Allowance,
 ) -> StrideAnswer
-    ensures { λ x. ⌜ StridePromise (now (array .entry)) (now (choices .entry)) (memory (now (threads .entry)) «thread_count» (now (markers .entry)) «marker_count»)
+    ensures { λ x. ⌜ StridePromise (now (array .entry)) (now (choices .entry))
+        (memory (now (threads .entry)) (counts .threads) (now (markers .entry)) (counts .markers))
         allowance x (now (threads .exit)) (now (markers .exit)) ⌝ }
 {
     let admitted = admit(array, choices);
     match admitted {
         ArrayAnswer::Refused(r) => StrideAnswer::Refused(r),
         ArrayAnswer::Read(t) => {
-            let strode = engine::next_turn(
-                array,
-                t,
-                choices,
-                threads,
-                thread_count,
-                markers,
-                marker_count,
-                allowance,
-            );
+            let strode = engine::next_turn(array, t, choices, threads, markers, counts, allowance);
             match strode {
                 Strode::Refused(number) => StrideAnswer::Refused(numbered(number)),
                 Strode::Strode(s) => stride_of(s, allowance),

@@ -1,18 +1,20 @@
--- The rows of the numbers: verdicts and replies by computation, the step's own from the front page's row.
+-- The rows of the numbers: verdicts and walks by computation, the step's own from the front page's row.
 use Prim.Native.Nat.{ℕ}
 use mathlib.Core.Path.{_≡_, refl, ap, _∙_}
 use mathlib.Core.List.{map}
-use Rattle.handover.specs.Front.{Said}
-use Rattle.handover.specs.Engine.{Reply, Left}
+use Rattle.handover.specs.Front.{Outcome}
+use Rattle.lent.specs.declared.Counts.{Counts}
+use Rattle.engine.specs.declared.Walk.{Walk}
+use Rattle.handover.specs.Engine.{Left}
 use Rattle.handover.proofs.Cases.{calls-hold}
-use Rattle.handover_c.specs.Packed.{packed, packedReply}
-use Rattle.handover_c.specs.Cases.{verdicts, replies, Stepped}
+use Rattle.handover_c.specs.Packed.{packedReply, packedOutcome, packedStep, packedWalk}
+use Rattle.handover_c.specs.Cases.{verdicts, walks, Stepped}
 
-pub verdicts-hold : map (λ (c : Said × ℕ). packed (c .0)) verdicts ≡ map (λ (c : Said × ℕ). c .1) verdicts
+pub verdicts-hold : map (λ (c : Outcome × ℕ). packedOutcome (c .0)) verdicts ≡ map (λ (c : Outcome × ℕ). c .1) verdicts
 verdicts-hold = refl
 
-pub replies-hold : map (λ (c : Reply × ℕ). packedReply 0 (c .0)) replies ≡ map (λ (c : Reply × ℕ). c .1) replies
-replies-hold = refl
+pub walks-hold : map (λ (c : Walk × ℕ). packedWalk (c .0)) walks ≡ map (λ (c : Walk × ℕ). c .1) walks
+walks-hold = refl
 
 pub step-holds : Stepped
-step-holds r l ml x = x .leaves .returns ∙ ap (λ (o : Left). packedReply 1 (o .reply)) (calls-hold .1 .1 .0)
+step-holds r l ml x = x .leaves .returns ∙ ap (λ (o : Left Counts). packedReply packedStep (o .reply)) (calls-hold .1 .1 .0)

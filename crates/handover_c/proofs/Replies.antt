@@ -15,13 +15,17 @@ use Rattle.model.specs.Memory.{store, fitted, onAnswer, firstReady, onPair, onS
 use Rattle.model.specs.declared.Ending.the-variants.{Quiet, Spent, Full}
 use Rattle.model.proofs.Lent.{formed-sound}
 use Rattle.model.proofs.Engine.{Fate, crowded, unlisted, stored, fitted-fate}
+use Rattle.lent.specs.declared.Counts.{Counts}
+use Rattle.engine.specs.declared.Walk.{Walk}
 use Rattle.handover.specs.declared.StartAnswer.{StartAnswer}
 use Rattle.handover.specs.declared.StepAnswer.{StepAnswer}
 use Rattle.handover.specs.declared.WalkAnswer.{WalkAnswer}
 use Rattle.handover.specs.Front.{arrayIn}
-use Rattle.handover.specs.Engine.{Reply, Left, left, unless, resultLeft, startRefusal, lentRefusal, startOf, stepOf, walkOf, saysStart, saysStep, saysWalk, StartPromise, StepPromise, WalkPromise}
-use Rattle.handover_c.specs.Packed.{packedReply, FitsCounts, FitsReply, Leaves, Starts, Steps, Walks}
-use Rattle.handover.specs.Refusals.{StartNumber, StepNumber, WalkNumber}
+use Rattle.handover.specs.Engine.{Left, left, unless, resultLeft, countsIn, startRefusal, lentRefusal, startOf, stepOf, walkOf}
+use Rattle.handover.specs.Engine.{saysStart, saysStep, saysWalk, StartPromise, StepPromise, WalkPromise}
+use Rattle.handover_c.specs.Packed.{packedReply, packedStart, packedStep, packedWalk, FitsCounts, FitsReply, FitsStart, FitsStep, FitsWalk}
+use Rattle.handover_c.specs.Packed.{Leaves, StartsInC, StepsInC, WalksInC}
+use Rattle.handover.specs.Refusals.{Reply, StartNumber, StepNumber, WalkNumber}
 use Rattle.handover.proofs.Refusals.{Small, start-small, lent-step, lent-walk, leave-stop, start-number, step-number}
 
 -- ---- what the engine finds
@@ -82,64 +86,70 @@ walk-steps a ch (suc k) m = go (λ n. walk-steps a ch k n) (firstReady (words (e
 
 -- ---- what an entry leaves
 
-unrefused : (P : ℕ → Type 0) (x : Found F.Refusal) (m : Memory) (o : Left) → Small P x → (x ≡ clear → FitsReply P (o .reply)) → FitsReply P (unless x m o .reply)
-unrefused P clear m o h k = k refl
-unrefused P (hit r) m o h k = h r refl
+module _ {A : Type 0} (Q : A → Type 0) (P : ℕ → Type 0) where
+  unrefused : (x : Found F.Refusal) (m : Memory) (o : Left A) → Small P x → (x ≡ clear → FitsReply Q P (o .reply)) → FitsReply Q P (unless x m o .reply)
+  unrefused clear m o h k = k refl
+  unrefused (hit r) m o h k = h r refl
 
-result-fits : (P : ℕ → Type 0) (m : Memory) (r : Result) → FitsResult P r → FitsReply P (resultLeft m r .reply)
-result-fits P m (stops n) h = (h, omega arith)
-result-fits P m (leaves n) h = h
+  result-fits : (f : Memory → A) → ((n : Memory) → FitsCounts (n .threadCount) (n .markerCount) → Q (f n)) → (m : Memory) (r : Result) → FitsResult P r
+      → FitsReply Q P (resultLeft f m r .reply)
+  result-fits f q m (stops n) h = (h, omega arith)
+  result-fits f q m (leaves n) h = q n h
 
 module _ (f choices : List ℕ) (m : Memory) where
-  start-of : FitsReply StartNumber (startOf f choices m .reply)
+  start-of : FitsReply FitsStart StartNumber (startOf f choices m .reply)
   unfolding startOf
-  start-of = unrefused StartNumber (startRefusal f choices) m _ (start-small f choices) λ _.
-      result-fits StartNumber m (startIn (arrayIn f) (choicesOf choices) m) (start-fits (arrayIn f) (choicesOf choices) m)
+  start-of = unrefused FitsStart StartNumber (startRefusal f choices) m _ (start-small f choices) λ _.
+      result-fits FitsStart StartNumber (λ n. n .threadCount) (λ n h. (h .0, omega arith)) m (startIn (arrayIn f) (choicesOf choices) m)
+      (start-fits (arrayIn f) (choicesOf choices) m)
 
-  step-of : (r s : ℕ) → FitsReply StepNumber (stepOf f choices m r s .reply)
+  step-of : (r s : ℕ) → FitsReply FitsStep StepNumber (stepOf f choices m r s .reply)
   unfolding stepOf
-  step-of r s = unrefused StepNumber (lentRefusal f choices m) m _ (lent-step f choices m) λ _.
+  step-of r s = unrefused FitsStep StepNumber (lentRefusal f choices m) m _ (lent-step f choices m) λ _.
       let u = try (choicesOf choices) r s in
-      result-fits StepNumber m (stepIn (arrayIn f) m u) (step-fits (arrayIn f) m u)
+      result-fits FitsStep StepNumber countsIn (λ n h. h) m (stepIn (arrayIn f) m u) (step-fits (arrayIn f) m u)
 
   -- the counts of a walk are those of lists that are well formed
   walk-of : (allowed : ℕ) → allowed < 2 ^ 32 → (x : WalkAnswer) (l ml : List ℕ) → WalkPromise f choices m allowed x l ml
-      → FitsReply WalkNumber (walkOf f choices m allowed .reply)
+      → FitsReply FitsWalk WalkNumber (walkOf f choices m allowed .reply)
   unfolding walkOf
-  walk-of allowed small x l ml p = unrefused WalkNumber (lentRefusal f choices m) m _ (lent-walk f choices m) λ c.
+  walk-of allowed small x l ml p = unrefused FitsWalk WalkNumber (lentRefusal f choices m) m _ (lent-walk f choices m) λ c.
       let w = walkIn (arrayIn f) (choicesOf choices) allowed m in
       let sound = formed-sound (arrayIn f) (w .left) (p .formed c) in
       ((omega (arith, sound .threadsFit), omega (arith, sound .markersFit)), omega (arith, small, walk-steps (arrayIn f) (choicesOf choices) allowed m))
 
 -- ---- the promises
 
-leaves-by : (P : ℕ → Type 0) (made : ℕ) (o : Left) (y : Reply) (r : ℕ) (l ml : List ℕ) → left y l ml ≡ o → FitsReply P (o .reply) → r ≡ packedReply made y
-    → Leaves P made o r l ml
-leaves-by P made o y r l ml e h q = record {
-  returns = q ∙ ap (λ (x : Left). packedReply made (x .reply)) e;
-  threads = ap (λ (x : Left). x .threads) e;
-  markers = ap (λ (x : Left). x .markers) e;
-  fits = h;
-}
+module _ {A : Type 0} (Q : A → Type 0) (P : ℕ → Type 0) (f : A → ℕ) where
+  leaves-by : (o : Left A) (y : Reply A) (r : ℕ) (l ml : List ℕ) → left y l ml ≡ o → FitsReply Q P (o .reply) → r ≡ packedReply f y → Leaves Q P f o r l ml
+  leaves-by o y r l ml e h q = record {
+    returns = q ∙ ap (λ (x : Left A). packedReply f (x .reply)) e;
+    threads = ap (λ (x : Left A). x .threads) e;
+    markers = ap (λ (x : Left A). x .markers) e;
+    fits = h;
+  }
 
 module _ (f choices : List ℕ) (m : Memory) where
   module _ (x : StartAnswer) (l : List ℕ) (p : StartPromise f choices m x l) where
-    pub start-answer : FitsReply StartNumber (saysStart x)
-    start-answer = subst (λ (o : Left). FitsReply StartNumber (o .reply)) (sym (p .leaves)) (start-of f choices m)
+    pub start-answer : FitsReply FitsStart StartNumber (saysStart x)
+    start-answer = subst (λ (o : Left ℕ). FitsReply FitsStart StartNumber (o .reply)) (sym (p .leaves)) (start-of f choices m)
 
-    pub starts : (r : ℕ) → r ≡ packedReply 0 (saysStart x) → Starts f choices m r l
-    starts r e = record { leaves = leaves-by StartNumber 0 _ _ r l [] (p .leaves) (start-of f choices m) e; promise = (x, p) }
+    pub starts : (r : ℕ) → r ≡ packedReply packedStart (saysStart x) → StartsInC f choices m r l
+    starts r e = record { leaves = leaves-by FitsStart StartNumber packedStart _ _ r l [] (p .leaves) (start-of f choices m) e; promise = (x, p) }
 
   module _ (i j : ℕ) (x : StepAnswer) (l ml : List ℕ) (p : StepPromise f choices m i j x l ml) where
-    pub step-answer : FitsReply StepNumber (saysStep x)
-    step-answer = subst (λ (o : Left). FitsReply StepNumber (o .reply)) (sym (p .leaves)) (step-of f choices m i j)
+    pub step-answer : FitsReply FitsStep StepNumber (saysStep x)
+    step-answer = subst (λ (o : Left Counts). FitsReply FitsStep StepNumber (o .reply)) (sym (p .leaves)) (step-of f choices m i j)
 
-    pub steps : (r : ℕ) → r ≡ packedReply 1 (saysStep x) → Steps f choices m i j r l ml
-    steps r e = record { leaves = leaves-by StepNumber 1 _ _ r l ml (p .leaves) (step-of f choices m i j) e; promise = (x, p) }
+    pub steps : (r : ℕ) → r ≡ packedReply packedStep (saysStep x) → StepsInC f choices m i j r l ml
+    steps r e = record { leaves = leaves-by FitsStep StepNumber packedStep _ _ r l ml (p .leaves) (step-of f choices m i j) e; promise = (x, p) }
 
   module _ (allowed : ℕ) (small : allowed < 2 ^ 32) (x : WalkAnswer) (l ml : List ℕ) (p : WalkPromise f choices m allowed x l ml) where
-    pub walk-answer : FitsReply WalkNumber (saysWalk x)
-    walk-answer = subst (λ (o : Left). FitsReply WalkNumber (o .reply)) (sym (p .leaves)) (walk-of f choices m allowed small x l ml p)
+    pub walk-answer : FitsReply FitsWalk WalkNumber (saysWalk x)
+    walk-answer = subst (λ (o : Left Walk). FitsReply FitsWalk WalkNumber (o .reply)) (sym (p .leaves)) (walk-of f choices m allowed small x l ml p)
 
-    pub walks : (r : ℕ) → r ≡ packedReply 0 (saysWalk x) → Walks f choices m allowed r l ml
-    walks r e = record { leaves = leaves-by WalkNumber 0 _ _ r l ml (p .leaves) (walk-of f choices m allowed small x l ml p) e; promise = (x, p) }
+    pub walks : (r : ℕ) → r ≡ packedReply packedWalk (saysWalk x) → WalksInC f choices m allowed r l ml
+    walks r e = record {
+      leaves = leaves-by FitsWalk WalkNumber packedWalk _ _ r l ml (p .leaves) (walk-of f choices m allowed small x l ml p) e;
+      promise = (x, p);
+    }

@@ -3,21 +3,21 @@ use Prim.Native.Nat.{ℕ}
 use mathlib.Core.Path.{_≡_}
 use mathlib.Core.List.{List, [], _∷_}
 use Rattle.model.specs.declared.Ending.the-variants.{Spent}
-use Rattle.handover.specs.Front.{Said, rule}
-use Rattle.handover.specs.Engine.{Reply, walked}
-use Rattle.handover.specs.Files.{pis, nodesE, toRight, startedE}
-use Rattle.handover_c.specs.Packed.{Steps}
+use Rattle.handover.specs.Front.{Outcome, rule}
+use Rattle.engine.specs.declared.Walk.{Walk}
+use Rattle.handover.specs.Files.{pis, nodesE, toRight, startedE, counts}
+use Rattle.handover_c.specs.Packed.{StepsInC}
 
 -- ---- answers, and their numbers
 
 -- 4 + 2^8 × 1,000 + 2^24 × 700 + 2^40 × 23
-abbrev pub verdicts : List (Said × ℕ)
+abbrev pub verdicts : List (Outcome × ℕ)
 verdicts = (rule 4 (1000 ∷ 700 ∷ 23 ∷ []), 25300511746052) ∷ []
 
 -- 1 + 2^8 × 256 + 2^18 × 4,096 + 2^32 × 70,000
-abbrev pub replies : List (Reply × ℕ)
-replies = (walked Spent 70000 256 4096, 300648784527361) ∷ []
+abbrev pub walks : List (Walk × ℕ)
+walks = (record { ending = Spent; steps = 70000; counts = counts 256 4096 }, 300648784527361) ∷ []
 
 -- E's step leaves three threads and a marker, so whatever number has the promise of the step is 2^8 × 3 + 2^18 + 2^32
 abbrev pub Stepped : Type 0
-Stepped = (r : ℕ) (l ml : List ℕ) → Steps (pis 5 nodesE) toRight startedE 1 0 r l ml → r ≡ 4295230208
+Stepped = (r : ℕ) (l ml : List ℕ) → StepsInC (pis 5 nodesE) toRight startedE 1 0 r l ml → r ≡ 4295230208

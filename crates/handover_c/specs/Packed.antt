@@ -6,15 +6,15 @@ use lib.ListN.{getD}
 use Rattle.model.specs.declared.Ending.{Ending}
 use Rattle.model.specs.declared.Ending.the-variants.{Quiet, Spent, Full}
 use Rattle.model.specs.Memory.{Memory}
+use Rattle.lent.specs.declared.Counts.{Counts}
+use Rattle.engine.specs.declared.Walk.{Walk}
 use Rattle.handover.specs.declared.StartAnswer.{StartAnswer}
 use Rattle.handover.specs.declared.StepAnswer.{StepAnswer}
 use Rattle.handover.specs.declared.Verdict.{Verdict}
 use Rattle.handover.specs.declared.WalkAnswer.{WalkAnswer}
-use Rattle.handover.specs.Front as F
-use Rattle.handover.specs.Front.{Said, judged, Judges, Demand3}
-use Rattle.handover.specs.Refusals.{TableNumber, StartNumber, StepNumber, WalkNumber}
-use Rattle.handover.specs.Engine as E
-use Rattle.handover.specs.Engine.{Reply, Left, startOf, stepOf, walkOf, StartPromise, StepPromise, WalkPromise}
+use Rattle.handover.specs.Front.{Outcome, held, rule, judged, Judges, Demand3}
+use Rattle.handover.specs.Refusals.{Reply, done, refused, TableNumber, StartNumber, StepNumber, WalkNumber}
+use Rattle.handover.specs.Engine.{Left, startOf, stepOf, walkOf, StartPromise, StepPromise, WalkPromise}
 
 -- ---- the numbers
 
@@ -26,12 +26,6 @@ placed figures = 2 ^ 8 * getD figures 0 0 + 2 ^ 24 * getD figures 1 0 + 2 ^ 40 *
 abbrev pub denied : ℕ → ℕ → ℕ
 denied number place = 100 + number + 2 ^ 8 * place
 
--- "0 for held, else the rule's number or 100 + the refusal's"
-abbrev pub packed : Said → ℕ
-packed (F.held m n k q) = 0
-packed (F.rule r figures) = r + placed figures
-packed (F.refused n p) = denied n p
-
 -- "done or quiet 0, spent 1, full 2"
 abbrev pub ending : Ending → ℕ
 ending Quiet = 0
@@ -42,14 +36,25 @@ ending Full = 2
 abbrev pub counted : ℕ → ℕ → ℕ → ℕ → ℕ
 counted code threads markers steps = code + 2 ^ 8 * threads + 2 ^ 18 * markers + 2 ^ 32 * steps
 
--- where an answer has counts alone, `made` are the steps made: none by a start, one by a step; a walk tells its own. The two replies
--- of one told step are never those of a start, a step or a walk.
-abbrev pub packedReply : ℕ → Reply → ℕ
-packedReply made (E.counts k j) = counted 0 k j made
-packedReply made (E.turned p q y k j w o) = 0
-packedReply made (E.ended x n) = 0
-packedReply made (E.walked x n k j) = counted (ending x) k j n
-packedReply made (E.refused n p) = denied n p
+-- what was done, by its own number, or a refusal's
+abbrev pub packedReply : {A : Type 0} → (A → ℕ) → Reply A → ℕ
+packedReply f (done x) = f x
+packedReply f (refused n p) = denied n p
+
+-- "0 for held, else the rule's number"
+abbrev pub packedOutcome : Outcome → ℕ
+packedOutcome (held z) = 0
+packedOutcome (rule r figures) = r + placed figures
+
+-- a start lists no marker and makes no step; a step makes one; a walk tells how many
+abbrev pub packedStart : ℕ → ℕ
+packedStart k = counted 0 k 0 0
+
+abbrev pub packedStep : Counts → ℕ
+packedStep n = counted 0 (n .threads) (n .markers) 1
+
+abbrev pub packedWalk : Walk → ℕ
+packedWalk w = counted (ending (w .ending)) (w .counts .threads) (w .counts .markers) (w .steps)
 
 -- ---- each part stays within its bits, so a caller reads it back by shifts and masks
 
@@ -60,46 +65,51 @@ FitsRefusal P number place = P number × (place < 2 ^ 16)
 abbrev pub FitsFigures : List ℕ → Type 0
 FitsFigures figures = (getD figures 0 0 < 2 ^ 16) × (getD figures 1 0 < 2 ^ 16) × (getD figures 2 0 < 2 ^ 16)
 
-abbrev pub Fits : Said → Type 0
-Fits (F.held m n k q) = Unit {0}
-Fits (F.rule r figures) = (1 ≤ r) × (r ≤ 5) × FitsFigures figures
-Fits (F.refused n p) = FitsRefusal TableNumber n p
+abbrev pub FitsOutcome : Outcome → Type 0
+FitsOutcome (held z) = Unit {0}
+FitsOutcome (rule r figures) = (1 ≤ r) × (r ≤ 5) × FitsFigures figures
 
 abbrev pub FitsCounts : ℕ → ℕ → Type 0
 FitsCounts threads markers = (threads < 2 ^ 10) × (markers < 2 ^ 14)
 
-abbrev pub FitsReply : (ℕ → Type 0) → Reply → Type 0
-FitsReply P (E.counts k j) = FitsCounts k j
-FitsReply P (E.turned p q y k j w o) = ⊥
-FitsReply P (E.ended x n) = ⊥
-FitsReply P (E.walked x n k j) = FitsCounts k j × (n < 2 ^ 32)
-FitsReply P (E.refused n p) = FitsRefusal P n p
+abbrev pub FitsReply : {A : Type 0} → (A → Type 0) → (ℕ → Type 0) → Reply A → Type 0
+FitsReply Q P (done x) = Q x
+FitsReply Q P (refused n p) = FitsRefusal P n p
+
+abbrev pub FitsStart : ℕ → Type 0
+FitsStart k = FitsCounts k 0
+
+abbrev pub FitsStep : Counts → Type 0
+FitsStep n = FitsCounts (n .threads) (n .markers)
+
+abbrev pub FitsWalk : Walk → Type 0
+FitsWalk w = FitsStep (w .counts) × (w .steps < 2 ^ 32)
 
 -- ---- the promises
 
-pub record Checks (f s : List ℕ) (r : ℕ) : Type 0 where
-  pub returns : r ≡ packed (judged f s)
-  pub fits : Fits (judged f s)
+pub record ChecksInC (f s : List ℕ) (r : ℕ) : Type 0 where
+  pub returns : r ≡ packedReply packedOutcome (judged f s)
+  pub fits : FitsReply FitsOutcome TableNumber (judged f s)
   -- it is the number of an answer that has the whole promise of the checker's entry
   pub judges : (v : Verdict) × Judges f s v
   -- demand 3
   pub holds : r ≡ 0 → Demand3 f s
 
 -- the number, and every word of both lists
-pub record Leaves (P : ℕ → Type 0) (made : ℕ) (o : Left) (r : ℕ) (l ml : List ℕ) : Type 0 where
-  pub returns : r ≡ packedReply made (o .reply)
+pub record Leaves {A : Type 0} (Q : A → Type 0) (P : ℕ → Type 0) (f : A → ℕ) (o : Left A) (r : ℕ) (l ml : List ℕ) : Type 0 where
+  pub returns : r ≡ packedReply f (o .reply)
   pub threads : l ≡ o .threads
   pub markers : ml ≡ o .markers
-  pub fits : FitsReply P (o .reply)
+  pub fits : FitsReply Q P (o .reply)
 
-pub record Starts (f choices : List ℕ) (m : Memory) (r : ℕ) (l : List ℕ) : Type 0 where
-  pub leaves : Leaves StartNumber 0 (startOf f choices m) r l []
+pub record StartsInC (f choices : List ℕ) (m : Memory) (r : ℕ) (l : List ℕ) : Type 0 where
+  pub leaves : Leaves FitsStart StartNumber packedStart (startOf f choices m) r l []
   pub promise : (x : StartAnswer) × StartPromise f choices m x l
 
-pub record Steps (f choices : List ℕ) (m : Memory) (receiver sender r : ℕ) (l ml : List ℕ) : Type 0 where
-  pub leaves : Leaves StepNumber 1 (stepOf f choices m receiver sender) r l ml
+pub record StepsInC (f choices : List ℕ) (m : Memory) (receiver sender r : ℕ) (l ml : List ℕ) : Type 0 where
+  pub leaves : Leaves FitsStep StepNumber packedStep (stepOf f choices m receiver sender) r l ml
   pub promise : (x : StepAnswer) × StepPromise f choices m receiver sender x l ml
 
-pub record Walks (f choices : List ℕ) (m : Memory) (allowed r : ℕ) (l ml : List ℕ) : Type 0 where
-  pub leaves : Leaves WalkNumber 0 (walkOf f choices m allowed) r l ml
+pub record WalksInC (f choices : List ℕ) (m : Memory) (allowed r : ℕ) (l ml : List ℕ) : Type 0 where
+  pub leaves : Leaves FitsWalk WalkNumber packedWalk (walkOf f choices m allowed) r l ml
   pub promise : (x : WalkAnswer) × WalkPromise f choices m allowed x l ml

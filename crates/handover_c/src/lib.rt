@@ -9,14 +9,16 @@ ghost use lib.ListN.{length};
 ghost use Rattle.arrays.specs.File.{remarkOf};
 ghost use Rattle.model.specs.Memory.{memory};
 ghost use Rattle.handover.specs.Front.{says};
-ghost use Rattle.handover.specs.Refusals.{StartNumber, StepNumber, WalkNumber};
+ghost use Rattle.handover.specs.Refusals.{TableNumber, StartNumber, StepNumber, WalkNumber};
 ghost use Rattle.handover.specs.Engine.{saysStart, saysStep, saysWalk};
-ghost use Rattle.handover_c.specs.Packed.{packed, packedReply, denied, counted, ending, Fits, FitsReply, FitsCounts};
-ghost use Rattle.handover_c.specs.Packed.{Checks, Starts, Steps, Walks};
+ghost use Rattle.handover_c.specs.Packed.{packedReply, packedOutcome, packedStart, packedStep, packedWalk, denied, counted, ending};
+ghost use Rattle.handover_c.specs.Packed.{FitsReply, FitsOutcome, FitsCounts, FitsStart, FitsStep, FitsWalk};
+ghost use Rattle.handover_c.specs.Packed.{ChecksInC, StartsInC, StepsInC, WalksInC};
 use handover::StartAnswer;
 use handover::StepAnswer;
 use handover::Verdict;
 use handover::WalkAnswer;
+use lent::Counts;
 use model::Ending;
 use records::Refusal;
 
@@ -37,11 +39,11 @@ fn pack_refusal(r: Refusal) -> u64
 }
 
 // A code with the counts and the steps made.
-fn pack_counts(code: u64, threads: usize, markers: usize, steps: u32) -> u64
-    requires { ⌜ (code < 2 ^ 8) × FitsCounts threads markers ⌝ }
-    ensures { λ x. ⌜ x ≡ counted code threads markers steps ⌝ }
+fn pack_counts(code: u64, counts: Counts, steps: u32) -> u64
+    requires { ⌜ (code < 2 ^ 8) × FitsCounts (counts .threads) (counts .markers) ⌝ }
+    ensures { λ x. ⌜ x ≡ counted code (counts .threads) (counts .markers) steps ⌝ }
 {
-    code + 256 * threads as u64 + 262144 * markers as u64 + 4294967296 * steps as u64
+    code + 256 * counts.threads as u64 + 262144 * counts.markers as u64 + 4294967296 * steps as u64
 }
 
 // The code of an ending.
@@ -57,8 +59,8 @@ fn ending_code(e: Ending) -> u64
 
 // A verdict's number.
 fn pack_verdict(v: Verdict) -> u64
-    requires { ⌜ Fits (says v) ⌝ }
-    ensures { λ x. ⌜ x ≡ packed (says v) ⌝ }
+    requires { ⌜ FitsReply FitsOutcome TableNumber (says v) ⌝ }
+    ensures { λ x. ⌜ x ≡ packedReply packedOutcome (says v) ⌝ }
 {
     match v {
         Verdict::Held(_z) => 0,
@@ -73,35 +75,42 @@ fn pack_verdict(v: Verdict) -> u64
 
 // The number of a start's answer.
 fn pack_start(x: StartAnswer) -> u64
-    requires { ⌜ FitsReply StartNumber (saysStart x) ⌝ }
-    ensures { λ r. ⌜ r ≡ packedReply 0 (saysStart x) ⌝ }
+    requires { ⌜ FitsReply FitsStart StartNumber (saysStart x) ⌝ }
+    ensures { λ r. ⌜ r ≡ packedReply packedStart (saysStart x) ⌝ }
 {
     match x {
-        StartAnswer::Started(threads) => pack_counts(0, threads, 0, 0),
+        StartAnswer::Started(threads) => pack_counts(
+            0,
+            Counts {
+                threads,
+                markers: 0,
+            },
+            0,
+        ),
         StartAnswer::Refused(r) => pack_refusal(r),
     }
 }
 
 // The number of a step's answer.
 fn pack_step(x: StepAnswer) -> u64
-    requires { ⌜ FitsReply StepNumber (saysStep x) ⌝ }
-    ensures { λ r. ⌜ r ≡ packedReply 1 (saysStep x) ⌝ }
+    requires { ⌜ FitsReply FitsStep StepNumber (saysStep x) ⌝ }
+    ensures { λ r. ⌜ r ≡ packedReply packedStep (saysStep x) ⌝ }
 {
     match x {
-        StepAnswer::Stepped(threads, markers) => pack_counts(0, threads, markers, 1),
+        StepAnswer::Stepped(counts) => pack_counts(0, counts, 1),
         StepAnswer::Refused(r) => pack_refusal(r),
     }
 }
 
 // The number of a walk's answer.
 fn pack_walk(x: WalkAnswer) -> u64
-    requires { ⌜ FitsReply WalkNumber (saysWalk x) ⌝ }
-    ensures { λ r. ⌜ r ≡ packedReply 0 (saysWalk x) ⌝ }
+    requires { ⌜ FitsReply FitsWalk WalkNumber (saysWalk x) ⌝ }
+    ensures { λ r. ⌜ r ≡ packedReply packedWalk (saysWalk x) ⌝ }
 {
     match x {
         WalkAnswer::Walked(w) => {
             let e = w.ending;
-            pack_counts(ending_code(e), w.threads, w.markers, w.steps)
+            pack_counts(ending_code(e), w.counts, w.steps)
         }
         WalkAnswer::Refused(r) => pack_refusal(r),
     }
@@ -110,7 +119,7 @@ fn pack_walk(x: WalkAnswer) -> u64
 // Judges a table against its array: 0 for held, else the rule or the refusal with its place.
 #[no_mangle]
 pub extern "C" fn handover_check(array: &[u8], table: &[u8]) -> u64
-    ensures { λ r. ⌜ Checks (now (array .entry)) (now (table .entry)) r ⌝ }
+    ensures { λ r. ⌜ ChecksInC (now (array .entry)) (now (table .entry)) r ⌝ }
 {
     pack_verdict(handover::check(array, table))
 }
@@ -118,7 +127,7 @@ pub extern "C" fn handover_check(array: &[u8], table: &[u8]) -> u64
 // Writes the start into the thread list. A refusal changes no word.
 #[no_mangle]
 pub extern "C" fn handover_start(array: &[u8], choices: &[u8], threads: &mut [u32]) -> u64
-    ensures { λ r. ⌜ Starts (now (array .entry)) (now (choices .entry)) (memory (now (threads .entry)) 0 [] 0) r (now (threads .exit)) ⌝ }
+    ensures { λ r. ⌜ StartsInC (now (array .entry)) (now (choices .entry)) (memory (now (threads .entry)) 0 [] 0) r (now (threads .exit)) ⌝ }
 {
     let answer = handover::start(array, choices, threads);
     pack_start(answer)
@@ -136,16 +145,18 @@ pub extern "C" fn handover_step(
     receiver: usize,
     sender: usize,
 ) -> u64
-    ensures { λ r. ⌜ Steps (now (array .entry)) (now (choices .entry)) (memory (now (threads .entry)) «thread_count» (now (markers .entry)) «marker_count»)
+    ensures { λ r. ⌜ StepsInC (now (array .entry)) (now (choices .entry)) (memory (now (threads .entry)) «thread_count» (now (markers .entry)) «marker_count»)
         receiver sender r (now (threads .exit)) (now (markers .exit)) ⌝ }
 {
     let answer = handover::step(
         array,
         choices,
         threads,
-        thread_count,
         markers,
-        marker_count,
+        Counts {
+            threads: thread_count,
+            markers: marker_count,
+        },
         receiver,
         sender,
     );
@@ -163,16 +174,18 @@ pub extern "C" fn handover_walk(
     marker_count: usize,
     allowed: u32,
 ) -> u64
-    ensures { λ r. ⌜ Walks (now (array .entry)) (now (choices .entry)) (memory (now (threads .entry)) «thread_count» (now (markers .entry)) «marker_count»)
+    ensures { λ r. ⌜ WalksInC (now (array .entry)) (now (choices .entry)) (memory (now (threads .entry)) «thread_count» (now (markers .entry)) «marker_count»)
         allowed r (now (threads .exit)) (now (markers .exit)) ⌝ }
 {
     let answer = handover::walk(
         array,
         choices,
         threads,
-        thread_count,
         markers,
-        marker_count,
+        Counts {
+            threads: thread_count,
+            markers: marker_count,
+        },
         allowed,
     );
     pack_walk(answer)

@@ -13,7 +13,8 @@ use borrow.Author.Tests.{eqb-true, eqb-false, eq-eqb, le-leb, lt-ltb, le-ltb}
 use borrow.Author.Count.{below-more}
 use Rattle.laws.specs.Search.{every, any, sum}
 use Rattle.laws.specs.Lists.{All, one, all, has, times}
-use Rattle.laws.proofs.Search.{decided, and-split, and-join, or-split, or-right, true-every, every-same, every-zero, every-cons, any-same, any-cons, sum-same, sum-cons}
+use Rattle.laws.proofs.Search.{decided, and-split, and-join, or-split, or-right, true-every, every-same, every-zero, every-cons}
+use Rattle.laws.proofs.Search.{any-same, any-cons, sum-same, sum-cons}
 
 -- ---- a statement of every element
 

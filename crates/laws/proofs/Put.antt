@@ -5,8 +5,8 @@ use Prim.Native.Nat.{ℕ, _+_, _-_, _≤_, _<_}
 use native.Mathlib.Nat.{add-zero, add-assoc, zero-add}
 use native.Mathlib.Numerals.{add-one}
 use native.Mathlib.Omega.{arith}
-use lib.ListN.{length, take, drop, getD, set, length-append, length-drop, take-append-drop, drop-of-length-le}
-use lib.Seq.{take-at, take-suc, drop-at, set-split, drop-drop, getD-drop, length-take-le}
+use lib.ListN.{length, take, drop, getD, set, length-append, length-drop, take-append-drop, drop-of-length-le, List·getD-append}
+use lib.Seq.{take-at, take-suc, drop-at, set-split, drop-drop, getD-drop, getD-append-add, length-take-le}
 use Rattle.laws.specs.Lists.{put}
 
 module _ {A : Type 0} where
@@ -95,3 +95,22 @@ module _ {A : Type 0} where
     set-put a k =
         let k′ : at + length xs < length (put at xs l) = rw length-put k in
         set-as-put (put at xs l) (at + length xs) a k′ ∙ put-put (a ∷ [])
+
+  -- two and four words written one after the other
+  pub put-two : (l : List A) (at : ℕ) (a b : A) → at + 1 < length l → set (set l at a) (at + 1) b ≡ put at (a ∷ b ∷ []) l
+  put-two l at a b h = ap (λ (m : List A). set m (at + 1) b) (set-as-put l at a (omega arith)) ∙ set-put at (a ∷ []) l (omega arith) b (omega arith)
+
+  pub put-four : (l : List A) (at : ℕ) (a b c d : A) → at + 3 < length l
+      → set (set (set (set l at a) (at + 1) b) (at + 2) c) (at + 3) d ≡ put at (a ∷ b ∷ c ∷ d ∷ []) l
+  put-four l at a b c d h =
+      ap (λ (m : List A). set (set m (at + 2) c) (at + 3) d) (put-two l at a b (omega arith))
+      ∙ ap (λ (m : List A). set m (at + 3) d) (set-put at (a ∷ b ∷ []) l (omega arith) c (omega arith))
+      ∙ set-put at (a ∷ b ∷ c ∷ []) l (omega arith) d (omega arith)
+
+  -- what was written is read back, where it stands
+  pub getD-written : (at : ℕ) (xs l : List A) (k : ℕ) (d : A) → at + length xs ≤ length l → k < length xs → getD (put at xs l) (at + k) d ≡ getD xs k d
+  unfolding put
+  getD-written at xs l k d h j =
+      let front : length (take at l) ≡ at = length-take-le at l (omega arith) in
+      ap (λ (n : ℕ). getD (take at l ++ (xs ++ drop (at + length xs) l)) (n + k) d) (sym front)
+      ∙ getD-append-add (take at l) (xs ++ drop (at + length xs) l) k d ∙ List·getD-append xs (drop (at + length xs) l) d k j

@@ -1,22 +1,19 @@
 -- Where balances stand: one after another, before the claims.
-use Prim.Native.Nat.{ℕ, _+_, _*_, _%_, _≤_, _<_}
-use native.Mathlib.Nat.{mul-le-mul, mul-le-mul-right, suc-mul, le-refl}
+use Prim.Native.Nat.{ℕ, _+_, _*_, _≤_, _<_}
+use native.Mathlib.Nat.{mul-le-mul, mul-le-mul-right, suc-mul}
 use native.Mathlib.Numerals.{add-one}
 use native.Mathlib.Omega.{arith}
-use mathlib.Core.Path.{_≡_, refl, sym, ap, _∙_}
+use mathlib.Core.Path.{_≡_, ap, _∙_}
 use Rattle.layout.specs.declared.Sizes.{Sizes}
 use Rattle.layout.specs.Table.{balanceSize, balanceAt, claimAt}
-
-pub balance-next : (z : Sizes) (k : ℕ) → balanceAt z (k + 1) ≡ balanceAt z k + balanceSize z
-balance-next z k = let e : (k + 1) * balanceSize z ≡ k * balanceSize z + balanceSize z = ap (λ (n : ℕ). n * balanceSize z) (add-one k) ∙ suc-mul k (balanceSize z) in omega arith
 
 -- balance k ends before the claims start
 pub balance-fits : (z : Sizes) (k : ℕ) → k < z .balances → balanceAt z k + balanceSize z ≤ claimAt z 0
 balance-fits z k h =
-    let e = balance-next z k in
+    let e : (k + 1) * balanceSize z ≡ k * balanceSize z + balanceSize z = ap (λ (n : ℕ). n * balanceSize z) (add-one k) ∙ suc-mul k (balanceSize z) in
     let l : (k + 1) * balanceSize z ≤ z .balances * balanceSize z = mul-le-mul-right (balanceSize z) (omega arith) in
     omega arith
 
--- all balances together take at most so many bytes
-pub balances-small : (z : Sizes) → z .nodes ≤ 1024 → z .balances ≤ 24 → z .balances * balanceSize z ≤ 24 * 2052
-balances-small z m k = mul-le-mul {n₁ = z .balances} {m₁ = balanceSize z} {n₂ = 24} {m₂ = 2052} k (omega arith)
+-- k balances together take at most so many bytes
+pub balances-small : (z : Sizes) (k : ℕ) → z .nodes ≤ 1024 → k ≤ 24 → k * balanceSize z ≤ 24 * 2052
+balances-small z k m l = mul-le-mul {n₁ = k} {m₁ = balanceSize z} {n₂ = 24} {m₂ = 2052} l (omega arith)

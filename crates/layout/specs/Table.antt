@@ -2,7 +2,7 @@
 -- checking order").
 use Prim.Native.Nat.{ℕ, _+_, _*_, _-_, _/_, _%_, _≤_}
 use mathlib.Core.Path.{_≡_}
-use mathlib.Core.Bool.{Bool, not, _&&_, _||_}
+use mathlib.Core.Bool.{Bool, cond, not, _&&_, _||_}
 use mathlib.Core.List.{List}
 use lib.Dec.{eqb, leb, ltb}
 use lib.ListN.{length, getD}
@@ -19,13 +19,28 @@ use Rattle.layout.specs.declared.Sizes.{Sizes}
 
 -- ---- the parts of the file
 
+-- the letters P, I, C, 1 as one number
+abbrev pub pic1 : ℕ
+pic1 = 80 + 256 * 73 + 65536 * 67 + 16777216 * 49
+
+-- the format that the letters name; 0 stands for none
+abbrev pub formOf : ℕ → ℕ
+formOf letters = cond (eqb letters pic1) 1 0
+
+-- what a format says: "rows of 32 bytes", "K of them, at most 24"
+abbrev pub rowSize : ℕ → ℕ
+rowSize form = 32
+
+abbrev pub mostBalances : ℕ → ℕ
+mostBalances form = 24
+
 -- "Balances: K of them, each a bound (32 bits) and M weights (16 bits each), padded with two zero bytes if M is odd."
 abbrev pub balanceSize : Sizes → ℕ
 balanceSize z = 4 + 2 * (z .nodes + z .nodes % 2)
 
 -- "Flow rows: N rows of 32 bytes", then the balances, then the claims
 abbrev pub balanceAt : Sizes → ℕ → ℕ
-balanceAt z k = 32 * z .names + k * balanceSize z
+balanceAt z k = rowSize (z .form) * z .names + k * balanceSize z
 
 -- "Claims: Q of them; each has four 16-bit numbers: agent, most, balance, zero."
 abbrev pub claimAt : Sizes → ℕ → ℕ
@@ -34,20 +49,26 @@ claimAt z c = balanceAt z (z .balances) + 8 * c
 -- "Trailer, 28 bytes: starts of rows, balances and claims (32 bits each), K, Q (16 each), the array's word sum, the table's
 -- word sum (all words before it), the letters `PIC1`."
 abbrev pub sizesOf : Trailer → List ℕ → Sizes
-sizesOf t s = record { nodes = t .nodes; names = t .names; balances = u16At s (length s - 16); claims = u16At s (length s - 14) }
+sizesOf t s = record {
+  nodes = t .nodes;
+  names = t .names;
+  balances = u16At s (length s - 16);
+  claims = u16At s (length s - 14);
+  form = formOf (u32At s (length s - 4));
+}
 
 -- ---- the table that the bytes stand for
 
 -- "Row v has bit o (byte o / 8, weight 2^(o mod 8)) where name v may hold a channel opened by new o."
-abbrev pub rowBit : List ℕ → ℕ → ℕ → Bool
-rowBit s v o = bit (getD s (32 * v + o / 8) 0) (o % 8)
+abbrev pub rowBit : List ℕ → Sizes → ℕ → ℕ → Bool
+rowBit s z v o = bit (getD s (rowSize (z .form) * v + o / 8) 0) (o % 8)
 
 abbrev pub weightAt : List ℕ → ℕ → ℕ → ℕ
 weightAt s at i = u16At s (at + 4 + 2 * i)
 
 abbrev pub tableOf : List ℕ → Sizes → Table
 tableOf s z = record {
-  row = rowBit s;
+  row = rowBit s z;
   balances = z .balances;
   balance = λ k. record { bound = u32At s (balanceAt z k); weight = weightAt s (balanceAt z k) };
   claims = z .claims;
@@ -55,10 +76,6 @@ tableOf s z = record {
 }
 
 -- ---- the refusals
-
--- the letters P, I, C, 1 as one number
-abbrev pub pic1 : ℕ
-pic1 = 80 + 256 * 73 + 65536 * 67 + 16777216 * 49
 
 -- "13. The table is shorter than 28 bytes, longer than 59,516, or no multiple of 4."
 abbrev pub lengthFits : List ℕ → Bool
@@ -68,12 +85,12 @@ abbrev pub refusal13 : List ℕ → Found F.Refusal
 refusal13 s = refuse 13 0 (lengthFits s)
 
 -- "14. Its letters are wrong."
-abbrev pub refusal14 : List ℕ → Found F.Refusal
-refusal14 s = refuse 14 0 (eqb (u32At s (length s - 4)) pic1)
+abbrev pub refusal14 : Sizes → Found F.Refusal
+refusal14 z = refuse 14 0 (eqb (z .form) 1)
 
 -- "15. K is above 24 or Q above 256."
 abbrev pub countsFit : Sizes → Bool
-countsFit z = leb (z .balances) 24 && leb (z .claims) 256
+countsFit z = leb (z .balances) (mostBalances (z .form)) && leb (z .claims) 256
 
 abbrev pub refusal15 : Sizes → Found F.Refusal
 refusal15 z = refuse 15 0 (countsFit z)
@@ -101,11 +118,11 @@ abbrev pub refusal18 : Trailer → List ℕ → Found F.Refusal
 refusal18 t s = refuse 18 0 (eqb (u32At s (length s - 12)) (t .sum))
 
 -- "19. A row has a bit for a number that no new opens (row)."
-abbrev pub rowFits : Array → List ℕ → ℕ → Bool
-rowFits a s v = every rowBits λ o. not (rowBit s v o) || isNew a o
+abbrev pub rowFits : Array → List ℕ → Sizes → ℕ → Bool
+rowFits a s z v = every rowBits λ o. not (rowBit s z v o) || isNew a o
 
 unfoldable pub refusal19 : Array → List ℕ → Sizes → Found F.Refusal
-refusal19 a s z = first (z .names) λ v. refuse 19 v (rowFits a s v)
+refusal19 a s z = first (z .names) λ v. refuse 19 v (rowFits a s z v)
 
 -- "20. A node that is no agent has a weight, or padding isn't zero (balance)."
 abbrev pub weightsFit : Array → List ℕ → ℕ → Bool

@@ -3,15 +3,40 @@
 ghost use mathlib.Core.Path.{_≡_};
 ghost use Prim.Native.Nat.{_≤_};
 ghost use lib.ListN.{length};
-ghost use Rattle.layout.specs.Table.{sizesOf, balanceSize, claimAt};
+ghost use Rattle.layout.specs.Table.{formOf, rowSize, mostBalances, sizesOf, balanceSize, balanceAt, claimAt};
 use records::Trailer;
 
-// M, N, K and Q.
+// M, N, K and Q, and which format the letters name: 1 for `PIC1`, 0 for letters that are none.
 pub struct Sizes {
     pub nodes: usize,
     pub names: usize,
     pub balances: usize,
     pub claims: usize,
+    pub form: usize,
+}
+
+// The format that the letters name.
+fn form_of(letters: u32) -> usize
+    ensures { λ n. ⌜ n ≡ formOf letters ⌝ }
+{
+    if letters == 826493264 {
+        return 1;
+    }
+    0
+}
+
+// How many bytes a flow row takes.
+pub fn row_size(form: usize) -> usize
+    ensures { λ n. ⌜ n ≡ rowSize form ⌝ }
+{
+    32
+}
+
+// The greatest K.
+pub fn most_balances(form: usize) -> usize
+    ensures { λ n. ⌜ n ≡ mostBalances form ⌝ }
+{
+    24
 }
 
 // The sizes that the two trailers say.
@@ -25,21 +50,30 @@ pub fn read_sizes(t: Trailer, table: &[u8]) -> Sizes
         names: t.names,
         balances: wire::u16_at(table, len - 16),
         claims: wire::u16_at(table, len - 14),
+        form: form_of(wire::u32_at(table, len - 4)),
     }
 }
 
 // How many bytes a balance takes.
-pub fn balance_size(z: Sizes) -> usize
+fn balance_size(z: Sizes) -> usize
     requires { ⌜ z .nodes ≤ 1024 ⌝ }
     ensures { λ n. ⌜ n ≡ balanceSize z ⌝ }
 {
     4 + 2 * (z.nodes + z.nodes % 2)
 }
 
-// Where the claims start.
-pub fn claims_at(z: Sizes) -> usize
-    requires { ⌜ (z .nodes ≤ 1024) × (z .names ≤ 256) × (z .balances ≤ 24) ⌝ }
-    ensures { λ n. ⌜ n ≡ claimAt z 0 ⌝ }
+// Where balance k stands.
+pub fn balance_at(z: Sizes, k: usize) -> usize
+    requires { ⌜ (z .nodes ≤ 1024) × (z .names ≤ 256) × (k ≤ 24) ⌝ }
+    ensures { λ n. ⌜ n ≡ balanceAt z k ⌝ }
 {
-    32 * z.names + z.balances * balance_size(z)
+    row_size(z.form) * z.names + k * balance_size(z)
+}
+
+// Where claim c stands.
+pub fn claim_at(z: Sizes, c: usize) -> usize
+    requires { ⌜ (z .nodes ≤ 1024) × (z .names ≤ 256) × (z .balances ≤ 24) × (c ≤ 256) ⌝ }
+    ensures { λ n. ⌜ n ≡ claimAt z c ⌝ }
+{
+    balance_at(z, z.balances) + 8 * c
 }

@@ -1,35 +1,59 @@
-// Refusal 23: whether a lent configuration is well formed.
-// Promises the model's `formed`. Depends on threads, markers, frees, arrays, records, model and laws.
+// The two lent lists: how many threads and markers are in use, whether so many fit, and refusal 23: whether the lists are well formed.
+// Promises the model's limits and its `formed`. Depends on threads, markers, frees, arrays, records, model and laws.
 ghost use mathlib.Core.Path.{_≡_};
+ghost use Prim.Native.Nat.{_≤_};
+ghost use lib.Dec.{leb};
 ghost use lib.ListN.{length};
-ghost use Rattle.model.specs.Memory.{formed};
+ghost use Rattle.model.specs.Memory.{threadRoom, markerRoom, formed};
 ghost use Rattle.records.specs.Record.{arrayOf};
 ghost use Rattle.arrays.specs.File.{IsRead};
 ghost use Rattle.frees.specs.Frees.{AllFree};
+ghost use Rattle.lent.specs.Lent.{lentOf};
 use records::Trailer;
+
+// How many threads and markers are in use.
+pub struct Counts {
+    pub threads: usize,
+    pub markers: usize,
+}
+
+// So many threads fit the list.
+pub fn threads_fit(threads: &[u32], names: usize, count: usize) -> bool
+    requires { ⌜ names ≤ 256 ⌝ }
+    ensures { λ b. ⌜ b ≡ leb count (threadRoom names (now (threads .entry))) ⌝ }
+{
+    (count <= 256) & (count <= threads.len() / (2 + names))
+}
+
+// So many markers fit the list.
+pub fn markers_fit(markers: &[u16], count: usize) -> bool
+    ensures { λ b. ⌜ b ≡ leb count (markerRoom (now (markers .entry))) ⌝ }
+{
+    (count <= 4096) & (count <= markers.len() / 4)
+}
 
 // The lent configuration is well formed: both counts fit the lists, and so do the threads and the marker entries.
 pub fn well_formed(
     file: &[u8],
     t: Trailer,
-    table: &[u64],
+    frees: &[u64],
     threads: &[u32],
-    count: usize,
     markers: &[u16],
-    listed: usize,
+    counts: Counts,
 ) -> bool
-    requires { ⌜ IsRead (now file) t × (length (now table) ≡ 4096) × AllFree (now table) (arrayOf (now file) t) ⌝ }
-    ensures { λ b. ⌜ b ≡ formed (arrayOf (now (file .entry)) t)
-        (record { threads = now (threads .entry); threadCount = count; markers = now (markers .entry); markerCount = listed }) ⌝ }
+    requires { ⌜ IsRead (now file) t × (length (now frees) ≡ 4096) × AllFree (now frees) (arrayOf (now file) t) ⌝ }
+    ensures { λ b. ⌜ b ≡ formed (arrayOf (now (file .entry)) t) (lentOf (now (threads .entry)) (now (markers .entry)) counts) ⌝ }
 {
-    if (256 < count) | (threads.len() / (2 + t.names) < count) {
+    let count = counts.threads;
+    let listed = counts.markers;
+    if !threads_fit(threads, t.names, count) {
         return false;
     }
-    if (4096 < listed) | (markers.len() / 4 < listed) {
+    if !markers_fit(markers, listed) {
         return false;
     }
     let news = frees::opened(file, t);
-    if !threads::threads_formed(file, t, table, &news, listed, threads, count) {
+    if !threads::threads_formed(file, t, frees, &news, listed, threads, count) {
         return false;
     }
     markers::entries_formed(file, t, markers, listed)

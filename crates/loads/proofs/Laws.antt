@@ -1,18 +1,16 @@
--- The load of a node by its record's kind, and the list of loads while node i's row is filled.
-use Prim.Native.Nat.{ℕ, _+_, _*_, _≤_, _<_, max}
+-- The load of a node by its record, and the list of loads while node i's row is filled.
+use Prim.Native.Nat.{ℕ, _+_, _≤_, _<_, max}
 use native.Mathlib.Nat.{eq-or-lt-of-le}
 use native.Mathlib.Omega.{arith}
 use mathlib.Core.Path.{_≡_, refl, sym, ap, ap₂, _∙_}
 use mathlib.Core.Logic.{⊎-elim}
-use mathlib.Core.Bool.{true, cond}
+use mathlib.Core.Bool.{true, false, cond, _||_, true≢false}
 use mathlib.Core.List.{List, [], _∷_}
-use lib.Dec.{eqb, leb}
-use lib.ListN.{length, getD, set}
+use lib.ListN.{length, set}
 use lib.Seq.{getD-set-same, getD-set-other}
-use borrow.Author.Tests.{le-leb}
 use Rattle.laws.specs.Lists.{has}
 use Rattle.laws.proofs.Lists.{has-here, has-later}
-use Rattle.model.specs.Tree.{Node, procAt, load}
+use Rattle.model.specs.Tree.{Array, Node, procAt, load, isAgent}
 use Rattle.model.specs.Nodes.{loadOf}
 use Rattle.model.specs.Formed.{children, WellFormed}
 use Rattle.model.specs.Rules.{Table}
@@ -21,8 +19,10 @@ use Rattle.model.proofs.Bounds.{load-bound}
 use Rattle.records.specs.declared.Record.{Record}
 use Rattle.records.specs.declared.Trailer.{Trailer}
 use Rattle.records.specs.Record.{recordOf, nodeOf, arrayOf}
-use Rattle.records.proofs.Laws.{by-kind, node-read, child-of}
-use Rattle.loads.specs.Loads.{Half, loadFrom, FilledFrom}
+use Rattle.records.specs.Kinds.{isStop, isNewNode, isPar, isChoice}
+use Rattle.records.proofs.Laws.{node-read, child-of}
+use Rattle.records.proofs.KindLaws.{by-node}
+use Rattle.loads.specs.Loads.{entryOf, loadIn, Half, loadFrom, FilledFrom}
 
 -- two loads of a node's children that agree give the node one load
 load-agree : (v w : ℕ → ℕ) (i j : ℕ) (f g : ℕ → ℕ) (n : Node) → v i ≡ w j
@@ -34,60 +34,73 @@ load-agree v w i j f g (Node.par l r) e h = ap₂ _+_ (h l (has-here l (r ∷ []
 load-agree v w i j f g (Node.choice l r) e h = ap₂ max (h l (has-here l (r ∷ []))) (h r (has-later l (r ∷ []) r (has-here r [])))
 load-agree v w i j f g (Node.agent s x ys l) e h = e
 
--- ---- a record's load, by its kind
+-- ---- a record's load, by the kinds' names
 
--- by the kind k, with f and g for the loads of the left and the right child
-abbrev byKind : ℕ → ℕ → ℕ → ℕ → ℕ
-byKind k w f g = cond (leb 4 k) w (cond (eqb k 0) 0 (cond (eqb k 1) f (cond (eqb k 2) (f + g) (max f g))))
+-- with f and g for the loads of the left and the right child
+abbrev byNode : Node → ℕ → ℕ → ℕ → ℕ
+byNode n w f g = cond (isAgent n) w (cond (isStop n) 0 (cond (isNewNode n) f (cond (isPar n) (f + g) (max f g))))
 
-pub load-kind : (loads : List ℕ) (r : Record) (k w : ℕ)
-    → loadFrom loads r k w ≡ byKind (r .kind) w (getD loads (24 * r .left + k) 0) (getD loads (24 * r .right + k) 0)
-unfolding loadOf
-load-kind loads r k w =
-    by-kind r
-    (λ m n. loadOf (λ i. w) 0 (λ c. getD loads (24 * c + k) 0) n ≡ byKind m w (getD loads (24 * r .left + k) 0) (getD loads (24 * r .right + k) 0))
-    refl refl refl refl refl refl
-    (λ m h. rw (le-leb 4 m (omega arith)))
+pub load-node : (loads : List ℕ) (r : Record) (k w : ℕ)
+    → loadFrom loads r k w ≡ byNode (nodeOf r) w (loadIn loads (r .left) k) (loadIn loads (r .right) k)
+unfolding loadOf isAgent isStop isNewNode isPar
+load-node loads r k w =
+    by-node r (λ n. loadOf (λ i. w) 0 (λ c. loadIn loads c k) n ≡ byNode n w (loadIn loads (r .left) k) (loadIn loads (r .right) k))
+    refl refl refl refl refl
+
+-- what is neither agent nor stop nor new has two children
+pub rest-branches : (r : Record) → isAgent (nodeOf r) ≡ false → isStop (nodeOf r) ≡ false → isNewNode (nodeOf r) ≡ false
+    → isPar (nodeOf r) || isChoice (nodeOf r) ≡ true
+unfolding isAgent isStop isNewNode isPar isChoice
+rest-branches r =
+    by-node r (λ n. isAgent n ≡ false → isStop n ≡ false → isNewNode n ≡ false → isPar n || isChoice n ≡ true)
+    (λ e f g. absurd (true≢false f)) (λ e f g. absurd (true≢false g)) (λ e f g. refl) (λ e f g. refl) (λ e f g. absurd (true≢false e))
 
 -- ---- the list while node i's row is filled
 
 -- the rows above row i are as they were
 abbrev pub SameAbove : List ℕ → List ℕ → ℕ → Type 0
-SameAbove before after i = (j k : ℕ) → i < j → k < 24 → getD after (24 * j + k) 0 ≡ getD before (24 * j + k) 0
+SameAbove before after i = (j k : ℕ) → i < j → k < 24 → loadIn after j k ≡ loadIn before j k
 
 -- row i holds the loads from record r, weight w k and the list as it was, in the balances below n
 abbrev pub RowTo : List ℕ → List ℕ → Record → (ℕ → ℕ) → ℕ → ℕ → Type 0
-RowTo before after r w i n = (k : ℕ) → k < n → getD after (24 * i + k) 0 ≡ loadFrom before r k (w k)
+RowTo before after r w i n = (k : ℕ) → k < n → loadIn after i k ≡ loadFrom before r k (w k)
 
 -- entry k of row i is written
-module _ (before after : List ℕ) (i k : ℕ) (few : k < 24) (fits : 24 * i + k < length after) (above : SameAbove before after i) (v : ℕ) where
-  pub above-set : SameAbove before (set after (24 * i + k) v) i
-  above-set j m l h = getD-set-other after (24 * i + k) (24 * j + m) v 0 (λ e. omega arith) ∙ above j m l h
+module _ (before after : List ℕ) (i k : ℕ) (few : k < 24) (fits : entryOf i k < length after) (above : SameAbove before after i) (v : ℕ) where
+  pub above-set : SameAbove before (set after (entryOf i k) v) i
+  above-set j m l h = getD-set-other after (entryOf i k) (entryOf j m) v 0 (λ e. omega arith) ∙ above j m l h
 
   pub row-set : (r : Record) (w : ℕ → ℕ) → ((c : ℕ) → has (children (nodeOf r)) c ≡ true → i < c) → v ≡ loadFrom after r k (w k)
-      → RowTo before after r w i k → RowTo before (set after (24 * i + k) v) r w i (k + 1)
+      → RowTo before after r w i k → RowTo before (set after (entryOf i k) v) r w i (k + 1)
   row-set r w kids e row m h =
       ⊎-elim
       (λ (q : m ≡ k).
       rw q
-      (getD-set-same after (24 * i + k) v 0 fits ∙ e
-      ∙ load-agree (λ j. w k) (λ j. w k) 0 0 _ (λ c. getD before (24 * c + k) 0) (nodeOf r) refl (λ c g. above c k (kids c g) few)))
-      (λ (l : m < k). getD-set-other after (24 * i + k) (24 * i + m) v 0 (λ e. omega arith) ∙ row m l)
+      (getD-set-same after (entryOf i k) v 0 fits ∙ e
+      ∙ load-agree (λ j. w k) (λ j. w k) 0 0 _ (λ c. loadIn before c k) (nodeOf r) refl (λ c g. above c k (kids c g) few)))
+      (λ (l : m < k). getD-set-other after (entryOf i k) (entryOf i m) v 0 (λ e. omega arith) ∙ row m l)
       (eq-or-lt-of-le (omega arith))
 
 -- ---- the loads of the process tree
 
+-- an entry that is a load is at most what 1024 nodes of 16-bit weights could weigh
+pub half-load : (a : Array) → WellFormed a → (w : ℕ → ℕ) → ((j : ℕ) → w j ≤ 65535) → (loads : List ℕ) → length loads ≡ 24576
+    → (i k : ℕ) → i < a .size → k < 24 → loadIn loads i k ≡ load w (procAt a i) → Half loads i k
+half-load a ok w small loads size i k h few e =
+    let n = ok .fewNodes in
+    let b = load-bound a (ok .children) (ok .parents) w i h 65535 small in
+    (omega arith, omega arith)
+
 module _ (s : List ℕ) (t : Trailer) (ok : WellFormed (arrayOf s t)) (i : ℕ) (h : i < t .nodes) (r : Record) (e : r ≡ recordOf s t i) where
   module _ (tab : Table) (few : tab .balances ≤ 24) (before after : List ℕ) (filled : FilledFrom before (arrayOf s t) tab (i + 1))
       (above : SameAbove before after i) where
-    -- the entry of a child is at most what 1024 nodes of 16-bit weights could weigh
+    -- the entry of a child is there
     pub half-child : length after ≡ 24576 → (k : ℕ) → k < tab .balances → ((j : ℕ) → (tab .balance k) .weight j ≤ 65535)
-        → (c : ℕ) → has (children (nodeOf r)) c ≡ true → Half after (24 * c + k)
+        → (c : ℕ) → has (children (nodeOf r)) c ≡ true → Half after c k
     half-child size k l small c g =
         let f = child-of s t i r h e (ok .children) c g in
-        let n = ok .fewNodes in
-        let b = load-bound (arrayOf s t) (ok .children) (ok .parents) ((tab .balance k) .weight) c (f .1) 65535 small in
-        (omega (arith, f .1), omega (arith, above c k (f .0) (omega arith), filled c k (omega (arith, f .0)) (f .1) l))
+        half-load (arrayOf s t) ok ((tab .balance k) .weight) small after size c k (f .1) (omega arith)
+        (above c k (f .0) (omega arith) ∙ filled c k (omega (arith, f .0)) (f .1) l)
 
     pub filled-row : RowTo before after r (λ k. (tab .balance k) .weight i) i (tab .balances) → FilledFrom after (arrayOf s t) tab i
     filled-row row j k l b g =
@@ -96,7 +109,7 @@ module _ (s : List ℕ) (t : Trailer) (ok : WellFormed (arrayOf s t)) (i : ℕ) 
         (λ (m : i < j). above j k m (omega arith) ∙ filled j k (omega arith) b g)
         (eq-or-lt-of-le l)
       where
-        node-load : (w : ℕ → ℕ) → ((c : ℕ) → i < c → c < t .nodes → getD before (24 * c + k) 0 ≡ load w (procAt (arrayOf s t) c))
+        node-load : (w : ℕ → ℕ) → ((c : ℕ) → i < c → c < t .nodes → loadIn before c k ≡ load w (procAt (arrayOf s t) c))
             → loadFrom before r k (w i) ≡ load w (procAt (arrayOf s t) i)
         node-load w known =
             load-agree (λ j. w i) w 0 i _ (λ c. load w (procAt (arrayOf s t) c)) (nodeOf r) refl

@@ -1,4 +1,4 @@
--- What the list of loads holds: entry 24 × i + k is the load of node i in balance k.
+-- What the list of loads holds: the load of node i in balance k is entry 24 × i + k.
 use Prim.Native.Nat.{ℕ, _+_, _*_, _≤_, _<_}
 use mathlib.Core.Path.{_≡_}
 use mathlib.Core.List.{List}
@@ -9,17 +9,23 @@ use Rattle.model.specs.Rules.{Table}
 use Rattle.records.specs.declared.Record.{Record}
 use Rattle.records.specs.Record.{nodeOf}
 
+abbrev pub entryOf : ℕ → ℕ → ℕ
+entryOf i k = 24 * i + k
+
+abbrev pub loadIn : List ℕ → ℕ → ℕ → ℕ
+loadIn loads i k = getD loads (entryOf i k) 0
+
 -- an entry is there, and the sum of two such entries fits 32 bits
-abbrev pub Half : List ℕ → ℕ → Type 0
-Half loads at = (at < length loads) × (getD loads at 0 < 2147483648)
+abbrev pub Half : List ℕ → ℕ → ℕ → Type 0
+Half loads i k = (entryOf i k < length loads) × (loadIn loads i k < 2147483648)
 
 -- the load in balance k of the node that a record stands for, from its weight and the entries of its children
 abbrev pub loadFrom : List ℕ → Record → ℕ → ℕ → ℕ
-loadFrom loads r k weight = loadOf (λ i. weight) 0 (λ c. getD loads (24 * c + k) 0) (nodeOf r)
+loadFrom loads r k weight = loadOf (λ i. weight) 0 (λ c. loadIn loads c k) (nodeOf r)
 
 -- from node n on
 abbrev pub FilledFrom : List ℕ → Array → Table → ℕ → Type 0
-FilledFrom loads a t n = (i k : ℕ) → n ≤ i → i < a .size → k < t .balances → getD loads (24 * i + k) 0 ≡ load ((t .balance k) .weight) (procAt a i)
+FilledFrom loads a t n = (i k : ℕ) → n ≤ i → i < a .size → k < t .balances → loadIn loads i k ≡ load ((t .balance k) .weight) (procAt a i)
 
 abbrev pub AllLoads : List ℕ → Array → Table → Type 0
-AllLoads loads a t = (i k : ℕ) → i < a .size → k < t .balances → getD loads (24 * i + k) 0 ≡ load ((t .balance k) .weight) (procAt a i)
+AllLoads loads a t = (i k : ℕ) → i < a .size → k < t .balances → loadIn loads i k ≡ load ((t .balance k) .weight) (procAt a i)

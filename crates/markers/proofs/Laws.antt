@@ -1,32 +1,25 @@
--- Entries read and written, the place of an entry among the first ones, marks of places, and tests of a node's kind.
-use Prim.Native.Nat.{ℕ, zero, suc, _+_, _*_, _≤_, _<_, suc-le-suc}
+-- Entries read and written, the place of an entry among the first ones, and marks of places.
+use Prim.Native.Nat.{ℕ, zero, suc, _+_, _*_, _<_, suc-le-suc}
 use native.Mathlib.Nat.{not-suc-le-zero, le-of-suc-le-suc, eq-or-lt-of-le, add-zero}
 use native.Mathlib.Omega.{arith}
 use mathlib.Core.Path.{_≡_, refl, sym, ap, ap₂, _∙_}
 use mathlib.Core.Logic.{_⊎_, inl, inr, ⊎-elim}
-use mathlib.Core.Bool.{Bool, true, false, cond, not, _&&_, _||_, and-assoc, true≢false}
+use mathlib.Core.Bool.{Bool, true, false, cond, not, _||_, true≢false}
 use mathlib.Core.List.{List, [], _∷_}
-use lib.Dec.{eqb, ltb, leb}
+use lib.Dec.{eqb, ltb}
 use lib.ListN.{length, getD, drop, set}
 use lib.Seq.{getD-drop}
-use borrow.Author.Tests.{ltb-true, lt-ltb, le-ltb, eq-eqb}
+use borrow.Author.Tests.{lt-ltb, le-ltb, eq-eqb}
 use Rattle.laws.specs.Lists.{put}
 use Rattle.laws.proofs.Search.{decided, or-left, or-right, every-same, every-not, any-zero, any-step, any-true, any-false}
 use Rattle.laws.proofs.Put.{set-as-put, set-put}
 use Rattle.marks.specs.Marks.{marked, markIf}
 use Rattle.marks.proofs.Laws.{marked-set}
-use Rattle.model.specs.Tree.{Node, nodeAt}
 use Rattle.model.specs.Numbers.{Entry, noEntry, sameEntry, position}
-use Rattle.model.specs.Memory.{entryIn, entriesIn, entryFormed, unlike, isResource, isOut}
+use Rattle.model.specs.Memory.{entryIn, entriesIn, unlike}
 use Rattle.model.proofs.Markers.{entry-eq}
 use Rattle.model.proofs.Memory.{length-entries, entries-at}
-use Rattle.records.specs.declared.Record.{Record}
-use Rattle.records.specs.declared.Trailer.{Trailer}
-use Rattle.records.specs.Record.{recordOf, nodeOf, arrayOf}
-use Rattle.records.proofs.Laws.{by-kind, kind-above}
-use Rattle.arrays.specs.File.{IsRead}
-use Rattle.arrays.proofs.Laws.{kind-small}
-use Rattle.markers.specs.Markers.{kindIs, slotOf, Seen, listed}
+use Rattle.markers.specs.Markers.{slotOf, Seen, listed}
 
 -- ---- one entry read and written
 
@@ -143,44 +136,3 @@ unlike-listed l k n h =
     every-same k _ (λ j. not (sameEntry (entryIn (drop (4 * j) l)) (entryIn (drop (4 * k) l))))
     (λ j m. ap₂ (λ (d e : Entry). not (sameEntry d e)) (entries-at j n l (omega arith)) (entries-at k n l h))
     ∙ every-not k (λ j. sameEntry (entryIn (drop (4 * j) l)) (entryIn (drop (4 * k) l)))
-
--- ---- a node's kind, and what an entry must have
-
-resource-kind : (r : Record) → r .kind ≤ 6 → eqb (r .kind) 6 ≡ isResource (nodeOf r)
-unfolding isResource
-resource-kind r =
-    by-kind r (λ k n. k ≤ 6 → eqb k 6 ≡ isResource n) (λ l. refl) (λ l. refl) (λ l. refl) (λ l. refl) (λ l. refl) (λ l. refl)
-    (λ k h l. eq-eqb k 6 (omega arith))
-
-out-kind : (r : Record) → eqb (r .kind) 4 ≡ isOut (nodeOf r)
-unfolding isOut
-out-kind r = by-kind r (λ k n. eqb k 4 ≡ isOut n) refl refl refl refl refl refl (λ k h. kind-above k 4 h (omega arith))
-
-module _ (s : List ℕ) (t : Trailer) where
-  -- a test that no stop passes, by the record
-  kind-at : (i k : ℕ) (f : Node → Bool) → f Node.stop ≡ false → (i < t .nodes → eqb (recordOf s t i .kind) k ≡ f (nodeOf (recordOf s t i)))
-      → kindIs s t i k ≡ f (nodeAt (arrayOf s t) i)
-  unfolding nodeAt
-  kind-at i k f past inside = go (decided (ltb i (t .nodes)))
-    where
-      go : (ltb i (t .nodes) ≡ true) ⊎ (ltb i (t .nodes) ≡ false) → kindIs s t i k ≡ f (nodeAt (arrayOf s t) i)
-      go (inl q) = rw q (inside (ltb-true i (t .nodes) q))
-      go (inr q) = rw q (sym past)
-
-  resource-at : IsRead s t → (i : ℕ) → kindIs s t i 6 ≡ isResource (nodeAt (arrayOf s t) i)
-  unfolding isResource
-  resource-at r i = kind-at i 6 isResource refl (λ h. resource-kind (recordOf s t i) (kind-small s t r i h))
-
-  out-at : (i : ℕ) → kindIs s t i 4 ≡ isOut (nodeAt (arrayOf s t) i)
-  unfolding isOut
-  out-at i = kind-at i 4 isOut refl (λ h. out-kind (recordOf s t i))
-
-  pub formed-kinds : IsRead s t → (k : ℕ) (e : Entry)
-      → kindIs s t (e .resource) 6 && kindIs s t (e .out) 4 && leb (e .left) k && leb (e .right) k ≡ entryFormed (arrayOf s t) k e
-  unfolding entryFormed
-  formed-kinds r k e =
-      let l = leb (e .left) k in
-      let m = leb (e .right) k in
-      ap₂ (λ (a b : Bool). a && b && l && m) (resource-at r (e .resource)) (out-at (e .out))
-      ∙ and-assoc (isResource (nodeAt (arrayOf s t) (e .resource)) && isOut (nodeAt (arrayOf s t) (e .out))) l m
-      ∙ and-assoc (isResource (nodeAt (arrayOf s t) (e .resource))) (isOut (nodeAt (arrayOf s t) (e .out))) (l && m)

@@ -3,7 +3,6 @@ use Prim.Native.Nat.{ℕ, _+_, _*_, _%_, _<_}
 use mathlib.Core.Path.{_≡_}
 use mathlib.Core.Bool.{Bool, true, _&&_}
 use mathlib.Core.List.{List}
-use lib.Dec.{eqb, ltb}
 use lib.ListN.{getD, drop}
 use Rattle.laws.specs.Search.{every, any}
 use Rattle.marks.specs.Marks.{marked}
@@ -11,8 +10,6 @@ use Rattle.model.specs.Tree.{Array}
 use Rattle.model.specs.Numbers as N
 use Rattle.model.specs.Numbers.{noEntry, sameEntry}
 use Rattle.model.specs.Memory.{entryIn, entryFormed, unlike}
-use Rattle.records.specs.declared.Trailer.{Trailer}
-use Rattle.records.specs.Record.{recordOf}
 use Rattle.markers.specs.declared.Entry.{Entry}
 
 -- what an entry stands for
@@ -30,10 +27,6 @@ Seen seen l k = (j : ℕ) → j < k → marked seen 0 (slotOf (entryIn (drop (4 
 -- one of the first k entries equals e
 unfoldable pub listed : List ℕ → ℕ → N.Entry → Bool
 listed l k e = any k λ j. sameEntry (entryIn (drop (4 * j) l)) e
-
--- node i is in the file and has a kind
-abbrev pub kindIs : List ℕ → Trailer → ℕ → ℕ → Bool
-kindIs s t i k = ltb i (t .nodes) && eqb (recordOf s t i .kind) k
 
 -- "a marker entry has a resource, an out and two numbers below its own; no two entries are equal"
 unfoldable pub entriesFormed : Array → List N.Entry → ℕ → Bool

@@ -1,5 +1,5 @@
 // The marker list: entries of four numbers, found, appended and checked (the part of refusal 23 that is about markers).
-// Promises equations with the model's entries. Depends on arrays, records, marks, model and laws.
+// Promises equations with the model's entries. Depends on records, marks, wire, model and laws.
 // A check takes 32,768 bytes of stack for one mark per place of an entry: only an entry whose place is marked already is searched
 // for among the earlier ones.
 ghost use mathlib.Core.Path.{_≡_};
@@ -11,9 +11,8 @@ ghost use Rattle.laws.specs.Lists.{put};
 ghost use Rattle.model.specs.Numbers.{sameEntry, position};
 ghost use Rattle.model.specs.Memory.{entryIn, entriesIn, entryNumbers, entryFormed, unlike};
 ghost use Rattle.marks.specs.Marks.{marked, markIf};
-ghost use Rattle.records.specs.Record.{arrayOf};
-ghost use Rattle.arrays.specs.File.{IsRead};
-ghost use Rattle.markers.specs.Markers.{entryOf, kindIs, slotOf, Seen, listed, entriesFormed};
+ghost use Rattle.records.specs.Record.{RecordsFit, arrayOf};
+ghost use Rattle.markers.specs.Markers.{entryOf, slotOf, Seen, listed, entriesFormed};
 use records::Trailer;
 
 // A marker entry: resource, out, and the numbers of their markers.
@@ -79,40 +78,26 @@ pub fn add_if(markers: &mut [u16], on: bool, count: usize, e: Entry)
     }
 }
 
-fn wide(x: u16) -> usize
-    ensures { λ r. ⌜ (r ≡ x) × (r < 65536) ⌝ }
-{
-    x as usize
-}
-
 // The place of an entry's mark.
 fn slot_of(e: Entry) -> usize
     ensures { λ r. ⌜ (r ≡ slotOf (entryOf e)) × (r < 262144) ⌝ }
 {
-    (40503 * wide(e.resource) + 30011 * wide(e.out) + 25117 * wide(e.left) + 17389 * wide(e.right))
-        % 262144
-}
-
-// Node i has this kind, 4 for an out and 6 for a resource.
-fn has_kind(file: &[u8], t: Trailer, i: usize, kind: usize) -> bool
-    requires { ⌜ IsRead (now file) t ⌝ }
-    ensures { λ b. ⌜ b ≡ kindIs (now (file .entry)) t i kind ⌝ }
-{
-    if t.nodes <= i {
-        return false;
-    }
-    records::record_at(file, t.start + 16 * i).kind == kind
+    let resource = 40503 * wire::number_index(e.resource);
+    let out = 30011 * wire::number_index(e.out);
+    let left = 25117 * wire::number_index(e.left);
+    let right = 17389 * wire::number_index(e.right);
+    (resource + out + left + right) % 262144
 }
 
 // Entry k has a resource, an out and two numbers below its own.
 fn entry_formed(file: &[u8], t: Trailer, k: usize, e: Entry) -> bool
-    requires { ⌜ IsRead (now file) t ⌝ }
+    requires { ⌜ RecordsFit (now file) t ⌝ }
     ensures { λ b. ⌜ b ≡ entryFormed (arrayOf (now (file .entry)) t) k (entryOf e) ⌝ }
 {
-    has_kind(file, t, wide(e.resource), 6)
-        & has_kind(file, t, wide(e.out), 4)
-        & (wide(e.left) <= k)
-        & (wide(e.right) <= k)
+    let resource = records::node_or_stop(file, t, wire::number_index(e.resource));
+    let out = records::node_or_stop(file, t, wire::number_index(e.out));
+    let below = (wire::number_index(e.left) <= k) & (wire::number_index(e.right) <= k);
+    records::is_resource(resource) & (records::sends(out) & below)
 }
 
 // The mark of a place.
@@ -164,7 +149,7 @@ fn entries_unlike(markers: &[u16], count: usize) -> bool
 
 // The first `count` entries are well formed.
 pub fn entries_formed(file: &[u8], t: Trailer, markers: &[u16], count: usize) -> bool
-    requires { ⌜ IsRead (now file) t × (4 * count ≤ length (now markers)) ⌝ }
+    requires { ⌜ RecordsFit (now file) t × (4 * count ≤ length (now markers)) ⌝ }
     ensures { λ b. ⌜ b ≡ entriesFormed (arrayOf (now (file .entry)) t) (entriesIn count (now (markers .entry))) count ⌝ }
 {
     let mut k: usize = 0;

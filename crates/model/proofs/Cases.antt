@@ -25,11 +25,11 @@ use Rattle.model.specs.Memory as M
 use Rattle.model.specs.declared.Ending.the-variants.{Quiet, Spent, Full}
 use Rattle.model.specs.Memory.{Result, stops, leaves, standsFor}
 use Rattle.model.specs.Rules as U
-use Rattle.model.specs.Rules.{Table, balanceOf, Rule2, Rule3, Rule4At, claimWeight, Rule5At, PairAt, ClaimsFit, Broken, at, verdict}
-use Rattle.model.specs.Rules.{Before, FirstBroken, broken1, broken2, broken3, broken4, broken5}
+use Rattle.model.specs.Rules.{Table, Live, Rule2, Rule3, Rule4At, Rule5At, ClaimsFit, Broken, at, verdict}
+use Rattle.model.specs.Rules.{FirstAt, FirstPair, FirstBroken, broken1, broken2, broken3, broken4, broken5}
 use Rattle.model.specs.Safe as Z
 use Rattle.model.specs.Safe.{Safe, Flows}
-use Rattle.model.specs.Cases.{A, B, D, tableA, table, claim, rowsA, weightsA, limits, tableD, opened, thread, threeOfA, twiceBroken}
+use Rattle.model.specs.Cases.{A, B, D, tableA, table, claim, rowsA, weightsA, limits, tableD, opened, thread, threeOfA, twiceBroken, H, tableH}
 use Rattle.model.proofs.Verdict.{live-Live}
 use Rattle.model.specs.Cases.{pair, lists, ended, A₁, B₀, B₁, B₁₂, B₂, B₃, B₄, G, G₁, G₂, Row, Says}
 use Rattle.model.specs.Cases.{rows, safeRows, stepRows, walkRows, toldRows, laterRows}
@@ -42,9 +42,9 @@ unfolding F.test F.andThen F.under F.first F.every F.any F.sum L.one L.all L.has
     W.children W.params W.binds W.sent W.uses W.childFits W.refusal8 W.fieldsTo W.refusal9 W.refusal10 W.binders W.refusal11 W.reaches W.inReach W.refusal12
     S.sameMarker S.sameCell S.calculus S.stays S.bind S.keep S.unless S.onAgents S.after S.cutFrom S.unfoldProc S.markerOf S.receiverLeaves S.senderLeaves
     S.stepped S.attempt S.start S.attempts S.run
-    N.sameEntry N.position N.extend N.numbers N.listAfter N.markersAfter N.startLent N.settle N.afterLent N.attemptsLent
+    N.sameEntry N.position N.extend N.listAfter N.markersAfter
     M.words M.threadIn M.threadsIn M.wordsOf M.entryIn M.entriesIn M.numbersOf M.isResource M.isOut M.wordFormed M.threadFormed M.entryFormed M.unlike M.formed
-    M.cellOf M.decodeWord M.standsFor N.decodeTo N.decode N.mapCell Z.total
+    M.decodeWord M.standsFor N.decodeTo N.decode Z.total
     M.store M.fitted M.startIn M.onAnswer M.stepIn M.isNext M.firstReady M.onPair M.onStep M.walkIn
     U.within U.shareBit U.fitBoth U.live U.taken U.onLive U.pairs U.check1 U.check2 U.arguments3 U.check3 U.balances4 U.check4 U.check5 U.verdict
 computed = tt
@@ -65,7 +65,7 @@ unfolding computed
 free6 v h = ⊎-elim (λ e. eqb-true v 2 e) (λ e. absurd (false≢true e)) (or-split (eqb v 2) false h)
 
 -- a cell is held
-abbrev isHeld : Cell Marker → Bool
+abbrev isHeld : Cell → Bool
 isHeld Cell.unheld = false
 isHeld (Cell.holds o m) = true
 
@@ -74,7 +74,7 @@ abbrev brim : Table
 brim = limits (1 ∷ []) 131073 2
 
 -- what Flows asks of one name of a thread
-abbrev Flow : Table → Thread Marker (Cell Marker) → ℕ → Type 0
+abbrev Flow : Table → Thread Marker Cell → ℕ → Type 0
 Flow t th v = (o : ℕ) × (m : Marker) × (getD (th .env) v Cell.unheld ≡ Cell.holds o m) × (t .row v o ≡ true)
 
 flow3 : Flows A brim (thread 3 (opened 0 ∷ opened 1 ∷ Cell.unheld ∷ []))
@@ -126,11 +126,11 @@ abbrev refusalIn : Result → ℕ
 refusalIn (stops n) = n
 refusalIn (leaves m) = 0
 
-abbrev standsIn : Array → Result → Config Marker (Cell Marker)
+abbrev standsIn : Array → Result → Config Marker Cell
 standsIn a (stops n) = []
 standsIn a (leaves m) = standsFor a m
 
-abbrev agentsIn : Config Marker (Cell Marker) → List ℕ
+abbrev agentsIn : Config Marker Cell → List ℕ
 agentsIn [] = []
 agentsIn (t ∷ ts) = t .agent ∷ agentsIn ts
 
@@ -138,15 +138,15 @@ abbrev outOf : Marker → ℕ
 outOf Marker.empty = 0
 outOf (Marker.node r o m n) = o
 
-abbrev outsIn : Config Marker (Cell Marker) → List ℕ
+abbrev outsIn : Config Marker Cell → List ℕ
 outsIn [] = []
 outsIn (t ∷ ts) = outOf (t .marker) ∷ outsIn ts
 
 -- the first agent; the out of the second thread's marker
-abbrev firstAgent : Config Marker (Cell Marker) → ℕ
+abbrev firstAgent : Config Marker Cell → ℕ
 firstAgent c = getD (agentsIn c) 0 0
 
-abbrev secondOut : Config Marker (Cell Marker) → ℕ
+abbrev secondOut : Config Marker Cell → ℕ
 secondOut c = getD (outsIn c) 1 0
 
 start-fits : Says (Row.noStart B (lists (7 ∷ 7 ∷ 7 ∷ 7 ∷ 7 ∷ 7 ∷ []) 0 [] 0) (stops 28))
@@ -196,12 +196,12 @@ abbrev attemptIn : Found Attempt → Attempt
 attemptIn clear = pair 0 0
 attemptIn (hit u) = u
 
-abbrev configIn : Answer Marker (Cell Marker) → Config Marker (Cell Marker)
+abbrev configIn : Answer Marker Cell → Config Marker Cell
 configIn (S.refused n) = []
 configIn (S.next c) = c
 
 -- a walk of one step leads where the step of the first ready pair does
-walk-one : (a : Array) (c e : Config Marker (Cell Marker)) → M.Walks a (λ i. false) 1 c e
+walk-one : (a : Array) (c e : Config Marker Cell) → M.Walks a (λ i. false) 1 c e
     → configIn (S.attempt calculus a c (attemptIn (M.firstReady calculus a (λ i. false) c))) ≡ e
 walk-one a c e (u, d, f, s, h) = ap (λ (w : Attempt). configIn (S.attempt calculus a c w)) (ap attemptIn f) ∙ (ap configIn s ∙ h)
 
@@ -286,71 +286,70 @@ tells-marker (h, t) =
 
 -- ---- broken rules that are not the first
 
--- what a broken rule 4 says of what comes before it
-abbrev First4 : Array → Table → ℕ → ℕ → Type 0
-First4 a t i j =
-    Rule2 a t
-    × Rule3 a t
-    × ((l m : ℕ) → Before l m i j → l < a .size → m < a .size → PairAt a t l m (λ p q. (n : ℕ) → n < t .balances → Rule4At t l m p q n))
+-- what a broken rule 4 says of the rules before it and of its pair, and a broken rule 5 of its claim
+abbrev Pair4 : Array → Table → List ℕ → Type 0
+Pair4 a t l = FirstPair a t (λ p. t .balances) (Rule4At t) (getD l 0 0) (getD l 1 0) (getD l 2 0)
 
-first4 : (a : Array) (t : Table) (i j k : ℕ) (b : Broken) → FirstBroken a t b → b ≡ at 4 (i ∷ j ∷ k ∷ []) → First4 a t i j
-first4 a t i j k b (broken1 o h x y w) e = absurd (eqb-false 1 4 refl (ap (λ (d : Broken). d .rule) e))
-first4 a t i j k b (broken2 r₁ n h x w) e = absurd (eqb-false 2 4 refl (ap (λ (d : Broken). d .rule) e))
-first4 a t i j k b (broken3 r₁ r₂ x y n w) e = absurd (eqb-false 3 4 refl (ap (λ (d : Broken). d .rule) e))
-first4 a t i j k b (broken4 r₁ r₂ r₃ x y n w) e =
-    let p : x ≡ i = ap (λ (d : Broken). getD (d .place) 0 0) e in
-    let q : y ≡ j = ap (λ (d : Broken). getD (d .place) 1 0) e in
-    (r₂, r₃, λ l m h. w .earlier l m (subst (λ z. Before l m z y) (sym p) (subst (λ z. Before l m i z) (sym q) h)))
-first4 a t i j k b (broken5 r₁ r₂ r₃ r₄ c h x w) e = absurd (eqb-false 5 4 refl (ap (λ (d : Broken). d .rule) e))
+first4 : (a : Array) (t : Table) (l : List ℕ) (b : Broken) → FirstBroken a t b → b ≡ at 4 l → Rule2 a t × Rule3 a t × Pair4 a t l
+first4 a t l b (broken1 o w) e = absurd (eqb-false 1 4 refl (ap (λ (d : Broken). d .rule) e))
+first4 a t l b (broken2 r₁ k w) e = absurd (eqb-false 2 4 refl (ap (λ (d : Broken). d .rule) e))
+first4 a t l b (broken3 r₁ r₂ i j n w) e = absurd (eqb-false 3 4 refl (ap (λ (d : Broken). d .rule) e))
+first4 a t l b (broken4 r₁ r₂ r₃ i j n w) e = (r₂, r₃, subst (λ (d : Broken). Pair4 a t (d .place)) e w)
+first4 a t l b (broken5 r₁ r₂ r₃ r₄ c w) e = absurd (eqb-false 5 4 refl (ap (λ (d : Broken). d .rule) e))
 
--- what a broken rule 5 says of its claim and of those before it
-abbrev First5 : Table → ℕ → Type 0
-First5 t c = (claimWeight t c ≤ balanceOf t c .bound) × ((m : ℕ) → m < c → Rule5At t m)
+abbrev Claim5 : Table → List ℕ → Type 0
+Claim5 t l = FirstAt (t .claims) (Rule5At t) (getD l 0 0)
 
-first5 : (a : Array) (t : Table) (c : ℕ) (b : Broken) → FirstBroken a t b → b ≡ at 5 (c ∷ []) → First5 t c
-first5 a t c b (broken1 o h x y w) e = absurd (eqb-false 1 5 refl (ap (λ (d : Broken). d .rule) e))
-first5 a t c b (broken2 r₁ n h x w) e = absurd (eqb-false 2 5 refl (ap (λ (d : Broken). d .rule) e))
-first5 a t c b (broken3 r₁ r₂ x y n w) e = absurd (eqb-false 3 5 refl (ap (λ (d : Broken). d .rule) e))
-first5 a t c b (broken4 r₁ r₂ r₃ x y n w) e = absurd (eqb-false 4 5 refl (ap (λ (d : Broken). d .rule) e))
-first5 a t c b (broken5 r₁ r₂ r₃ r₄ d h x w) e = subst (First5 t) (ap (λ (y : Broken). getD (y .place) 0 0) e) (x, w)
+first5 : (a : Array) (t : Table) (l : List ℕ) (b : Broken) → FirstBroken a t b → b ≡ at 5 l → Claim5 t l
+first5 a t l b (broken1 o w) e = absurd (eqb-false 1 5 refl (ap (λ (d : Broken). d .rule) e))
+first5 a t l b (broken2 r₁ k w) e = absurd (eqb-false 2 5 refl (ap (λ (d : Broken). d .rule) e))
+first5 a t l b (broken3 r₁ r₂ i j n w) e = absurd (eqb-false 3 5 refl (ap (λ (d : Broken). d .rule) e))
+first5 a t l b (broken4 r₁ r₂ r₃ i j n w) e = absurd (eqb-false 4 5 refl (ap (λ (d : Broken). d .rule) e))
+first5 a t l b (broken5 r₁ r₂ r₃ r₄ c w) e = subst (λ (d : Broken). Claim5 t (d .place)) e w
 
-later-pair : Says (Row.notFirst D (tableD 9 0 1) (at 4 (2 ∷ 6 ∷ 0 ∷ [])))
+-- a live pair, with its agents computed
+abbrev livePair : (a : Array) (t : Table) (i j : ℕ) → U.live t i j (agentIn (T.agentAt a i)) (agentIn (T.agentAt a j)) ≡ true
+    → Live t i j (agentIn (T.agentAt a i)) (agentIn (T.agentAt a j))
+livePair a t i j e = live-Live t i j (agentIn (T.agentAt a i)) (agentIn (T.agentAt a j)) e
+
+later-receiver : Says (Row.notFirst H tableH (at 4 (5 ∷ 3 ∷ 0 ∷ [])))
 unfolding computed table
-later-pair b =
-    let p = agentIn (T.agentAt D 2) in
-    let q = agentIn (T.agentAt D 5) in
-    let live = live-Live (tableD 9 0 1) 2 5 p q refl in
-    let before : Before 2 5 2 6 = inr (refl, omega arith) in
-    let z : 1 ≤ 0 = first4 D (tableD 9 0 1) 2 6 0 _ b refl .2 2 5 before (omega arith) (omega arith) p q refl refl live 0 (omega arith) in
+later-receiver b =
+    let f = first4 H tableH (5 ∷ 3 ∷ 0 ∷ []) _ b refl .2 in
+    let z : 1 ≤ 0 = f .lower 4 (omega arith) 3 (omega arith) _ _ refl refl (livePair H tableH 4 3 refl) 0 (omega arith) in
+    absurd (omega (arith, z))
+
+later-sender : Says (Row.notFirst D (tableD 9 0 1) (at 4 (2 ∷ 6 ∷ 0 ∷ [])))
+unfolding computed table
+later-sender b =
+    let f = first4 D (tableD 9 0 1) (2 ∷ 6 ∷ 0 ∷ []) _ b refl .2 in
+    let z : 1 ≤ 0 = f .beside 5 (omega arith) _ _ refl refl (livePair D (tableD 9 0 1) 2 5 refl) 0 (omega arith) in
     absurd (omega (arith, z))
 
 rule-2-first : Says (Row.notFirst D (tableD 1 1 2) (at 4 (2 ∷ 5 ∷ 0 ∷ [])))
 unfolding computed table
-rule-2-first b = let z : 2 ≤ 1 = first4 D (tableD 1 1 2) 2 5 0 _ b refl .0 0 (omega arith) in absurd (omega (arith, z))
+rule-2-first b = let z : 2 ≤ 1 = first4 D (tableD 1 1 2) (2 ∷ 5 ∷ 0 ∷ []) _ b refl .0 0 (omega arith) in absurd (omega (arith, z))
 
 rule-3-first : Says (Row.notFirst A twiceBroken (at 4 (5 ∷ 3 ∷ 0 ∷ [])))
 unfolding computed table
 rule-3-first b =
-    let p = agentIn (T.agentAt A 5) in
-    let q = agentIn (T.agentAt A 3) in
-    let live = live-Live twiceBroken 5 3 p q refl in
-    absurd (false≢true (first4 A twiceBroken 5 3 0 _ b refl .1 5 3 (omega arith) (omega arith) p q refl refl live 0 (omega arith) 1 (omega arith) refl))
+    let r₃ = first4 A twiceBroken (5 ∷ 3 ∷ 0 ∷ []) _ b refl .1 in
+    false≢true (r₃ 5 (omega arith) 3 (omega arith) _ _ refl refl (livePair A twiceBroken 5 3 refl) 0 (omega arith) 1 (omega arith) refl)
 
 later-claim : Says (Row.notFirst A (table rowsA 1 weightsA (claim 6 0 ∷ claim 6 0 ∷ [])) (at 5 (1 ∷ [])))
 unfolding computed table
 later-claim b =
-    let t = table rowsA 1 weightsA (claim 6 0 ∷ claim 6 0 ∷ []) in
-    let z : 1 < 1 = first5 A t 1 _ b refl .1 0 (omega arith) in absurd (omega (arith, z))
+    let z : 1 < 1 = first5 A (table rowsA 1 weightsA (claim 6 0 ∷ claim 6 0 ∷ [])) (1 ∷ []) _ b refl .earlier 0 (omega arith) in absurd (omega (arith, z))
 
 kept-claim : Says (Row.notFirst A tableA (at 5 (0 ∷ [])))
 unfolding computed table
-kept-claim b = let z : 2 ≤ 1 = first5 A tableA 0 _ b refl .0 in absurd (omega (arith, z))
+kept-claim b = first5 A tableA (0 ∷ []) _ b refl .fails (omega arith)
 
 -- ---- the rows
 
 pub cases : All Says rows
 unfolding computed table
-cases = (refl, (refl, (refl, (refl, (refl, (refl, (refl, (refl, (refl, (refl, (refl, (refl, (refl, (refl, (refl, (refl, (refl, tt)))))))))))))))))
+cases = (refl, (refl, (refl, (refl, (refl, (refl, (refl, (refl, (refl, (refl, (refl, (refl, (refl, (refl, (refl, (refl, (refl, (refl, tt))))))))))))))))))
 
 pub safe-cases : All Says safeRows
 safe-cases = (safe-brim, (unsafe-claim, (unsafe-bound, (unsafe-row, (unsafe-opening, tt)))))
@@ -368,7 +367,7 @@ told-cases =
     (tells-not-quiet, (tells-not-spent, (tells-not-full, (tells-allowed, (tells-first-pair, (tells-changes, (tells-marker, tt)))))))
 
 pub later-cases : All Says laterRows
-later-cases = (later-pair, (rule-2-first, (rule-3-first, (later-claim, (kept-claim, tt)))))
+later-cases = (later-receiver, (later-sender, (rule-2-first, (rule-3-first, (later-claim, (kept-claim, tt))))))
 
 -- ---- demand 3 at A: its array is well formed, its table is accepted, so every configuration that A can come to is safe
 

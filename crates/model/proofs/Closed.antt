@@ -2,15 +2,14 @@
 -- nothing reaches the root.
 use Prim.Native.Nat.{ℕ, zero, suc, _+_, _≤_, _<_}
 use native.Mathlib.Omega.{arith}
-use mathlib.Core.Path.{_≡_, refl, sym, ap, _∙_}
-use mathlib.Core.Logic.{_⊎_, inl, inr, ⊎-elim}
-use mathlib.Core.Bool.{Bool, true, false, not, _&&_, _||_, false≢true}
+use mathlib.Core.Path.{_≡_, refl, sym, _∙_}
+use mathlib.Core.Logic.{⊎-elim}
+use mathlib.Core.Bool.{true, false, not, _||_, false≢true}
 use mathlib.Core.List.{List, [], _∷_}
 use lib.Dec.{eqb}
-use borrow.Author.Tests.{eqb-true, not-true}
-use Rattle.laws.specs.Search.{clear}
+use borrow.Author.Tests.{not-true}
 use Rattle.laws.specs.Lists.{has}
-use Rattle.laws.proofs.Search.{and-split, or-split, or-left, or-right, test-clear, first-clear}
+use Rattle.laws.proofs.Search.{and-split, or-split, or-right, test-clear, first-clear}
 use Rattle.laws.proofs.Lists.{all-has, has-here, has-later}
 use Rattle.model.specs.Tree.{Array, Sort, out, inp, resource, Node, nodeAt, Proc, grow, tree, procAt, isFree, freeBelow}
 use Rattle.model.specs.Formed.{WellFormed, children, params, binds, sent, uses, inReach, refusal12}
@@ -36,7 +35,8 @@ module _ (a : Array) (wf : WellFormed a) where
     either l r cl cr b e =
         ⊎-elim (λ (p : isFree (f l) v ≡ true). child l cl b p) (λ (p : isFree (f r) v ≡ true). child r cr b p) (or-split (isFree (f l) v) (isFree (f r) v) e)
 
-    free-agent : (s : Sort) (x : ℕ) (ys : List ℕ) (l : ℕ) → nodeAt a i ≡ Node.agent s x ys l → freeBelow s (has ys v) (isFree (f l) v) ≡ true → inReach a v i ≡ true
+    free-agent : (s : Sort) (x : ℕ) (ys : List ℕ) (l : ℕ) → nodeAt a i ≡ Node.agent s x ys l
+        → freeBelow s (has ys v) (isFree (f l) v) ≡ true → inReach a v i ≡ true
     unfolding freeBelow children uses binds sent params has
     free-agent out x ys l ev e =
         ⊎-elim (λ (k : has ys v ≡ true). use-reach i v h (rw ev (or-right (eqb v x) (has ys v) k)))

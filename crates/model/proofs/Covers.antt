@@ -6,7 +6,7 @@ use native.Mathlib.Omega.{arith}
 use mathlib.Core.Path.{_≡_, refl, sym, ap, _∙_, subst}
 use mathlib.Core.Logic.{_⊎_, inl, inr}
 use mathlib.Core.Bool.{Bool, true, false, cond, false≢true, true≢false}
-use mathlib.Core.List.{List, [], _∷_, _++_}
+use mathlib.Core.List.{List, [], _∷_}
 use mathlib.Core.Option.{some}
 use lib.Dec.{eqb}
 use lib.ListN.{length, getD, set, replicate, length-set, length-replicate, length-map}
@@ -210,6 +210,6 @@ module _ {X C : Type 0} (N : Notation X C) (a : Array) (wf : WellFormed a) (Fits
       pub step-ok : All Ok (stepped N c u (m .p) (m .q))
       unfolding stepped
       step-ok =
-          All-append Ok (keep (stays (m .p .sort) (u .receiver) (u .sender)) c) (receiverLeaves N (u .choices) R S (m .p) (m .q) ++ senderLeaves N (u .choices) S (m .q))
+          All-append Ok (keep (stays (m .p .sort) (u .receiver) (u .sender)) c) _
           (keep-all Ok (stays (m .p .sort) (u .receiver) (u .sender)) c all)
           (All-append Ok (receiverLeaves N (u .choices) R S (m .p) (m .q)) (senderLeaves N (u .choices) S (m .q)) receiver-leaves sender-leaves)

@@ -1,35 +1,37 @@
 -- Start, step and walk on lent lists: they keep what refusal 23 asks, and what they leave stands for what the calculus leaves.
-use Prim.Native.Nat.{ℕ, zero, suc, _+_, _≤_, _<_, zero-le}
+use Prim.Native.Nat.{ℕ, zero, suc, _≤_, _<_, zero-le}
 use native.Mathlib.Nat.{le-trans, le-refl}
 use native.Mathlib.Omega.{arith}
 use mathlib.Core.Path.{_≡_, refl, sym, ap, ap₂, _∙_, subst}
-use mathlib.Core.Logic.{_⊎_, inl, inr, _≢_}
+use mathlib.Core.Logic.{_⊎_, inl, inr}
 use mathlib.Core.Bool.{Bool, true, false, cond, not, false≢true, true≢false}
 use mathlib.Core.List.{List, [], _∷_, _++_, map}
-use mathlib.Core.Option.{none, some}
-use lib.Dec.{eqb, ltb, leb}
-use lib.ListN.{length, getD, drop, length-map}
+use mathlib.Core.Option.{some}
+use lib.Dec.{ltb, leb}
+use lib.ListN.{length, getD, length-map}
 use borrow.Author.Tests.{leb-true, leb-false, not-false}
 use Rattle.laws.specs.Search.{Found, clear, hit, test}
 use Rattle.laws.specs.Lists.{All, put}
 use Rattle.laws.proofs.Search.{decided, first-same, first-hit, test-hit}
-use Rattle.laws.proofs.Lists.{All-append, All-getD, All-map, All-maps, getD-All, below-All}
+use Rattle.laws.proofs.Lists.{All-append, All-getD, All-map, getD-All, below-All}
 use Rattle.laws.proofs.Put.{put-front, length-put}
 use Rattle.model.specs.Tree.{Array, Sort, out, inp, resource, Node, nodeAt, Proc, Agent, procAt, isFree, receives}
 use Rattle.model.specs.Nodes.{agentOf}
 use Rattle.model.specs.Formed.{WellFormed}
-use Rattle.model.specs.Calculus.{Marker, Cell, calculus, Choices, Thread, Config, Attempt, Answer, refused, next, noThread, markerOf, stepped, attempt, start}
-use Rattle.model.specs.Numbers.{Entry, noEntry, decode, Listed, position, extend, numbers, listAfter, markersAfter, mapAnswer, CellFits, ThreadFits}
-use Rattle.model.specs.Memory.{markerIn, words, threadsIn, wordsOf, entriesIn, numbersOf, Memory, configOf, entriesOf, threadRoom, markerRoom, isResource, isOut, threadFormed}
+use Rattle.model.specs.Calculus.{Marker, Cell, calculus, Choices, Thread, Config, Attempt, Answer, refused, next, noThread, stepped, attempt, start}
+use Rattle.model.specs.Numbers.{Entry, noEntry, decode, Listed, position, extend, listAfter, markersAfter}
+use Rattle.model.specs.Memory.{markerIn, words, threadsIn, wordsOf, entriesIn, numbersOf, Memory, configOf, entriesOf, threadRoom, markerRoom}
+use Rattle.model.specs.Memory.{isResource, isOut, threadFormed}
 use Rattle.model.specs.Memory.{Result, stops, leaves, store, fitted, startIn, onAnswer, stepIn, isNext, try, firstReady}
 use Rattle.model.specs.declared.Ending.{Ending}
 use Rattle.model.specs.declared.Ending.the-variants.{Quiet, Spent, Full}
-use Rattle.model.specs.Memory.{Walked, ends, more, onPair, onStep, walkIn, cellOf, decodeWord, standsFor, Starts, Follows, Walks, Ends}
+use Rattle.model.specs.Memory.{Walked, ends, more, onPair, onStep, walkIn, decodeWord, standsFor, Starts, Follows, Walks, Ends}
 use Rattle.model.proofs.Nodes.{agent-at}
 use Rattle.model.proofs.Stepped.{Meet, attempt-next}
-use Rattle.model.proofs.Decoded.{after-kept, made-fits}
-use Rattle.model.proofs.Memory.{Wide, length-entries, length-words, length-numbers, threads-words, entries-numbers, thread-room, marker-room, threads-wide}
-use Rattle.model.proofs.Words.{cells, decoded, made-same, list-cells, markers-cells, attempt-words, start-words}
+use Rattle.model.proofs.Memory.{Wide, length-entries, length-words, length-numbers, threads-words, entries-numbers, thread-room, marker-room}
+use Rattle.model.proofs.Memory.{threads-wide}
+use Rattle.model.proofs.Natural.{mapAnswer}
+use Rattle.model.proofs.Words.{decoded, Fits, none-listed, start-words, Kept, after-is, after-kept, marker-fits, attempt-words}
 use Rattle.model.proofs.Lent.{Holds, Ok, formed-ok, ok-formed, Kinds, Sound}
 use Rattle.model.proofs.Covers as C
 
@@ -64,17 +66,13 @@ out-node f (Node.agent s x ys l) g e h =
 -- ---- threads that are well formed
 
 module _ (a : Array) (wf : WellFormed a) (k : ℕ) (few : k ≤ 4096) (es : List Entry) (t : Thread ℕ ℕ) (ok : Ok a wf k few es t) where
-  word-fits : (v : ℕ) → (isFree (procAt a (t .agent)) v ≡ true) ⊎ (isFree (procAt a (t .agent)) v ≡ false) → CellFits k (cellOf (getD (t .env) v 0))
-  unfolding cellOf words
-  word-fits v (inl f) = go (getD (t .env) v 0) (decided (eqb (getD (t .env) v 0) 0)) (ok .covers v f .marker)
-    where
-      go : (x : ℕ) → (eqb x 0 ≡ true) ⊎ (eqb x 0 ≡ false) → markerIn x ≤ k → CellFits k (cellOf x)
-      go x (inl q) h = rw q tt
-      go x (inr q) h = rw q h
-  word-fits v (inr f) = rw (ok .bare v f) tt
+  word-fits : (v : ℕ) → (isFree (procAt a (t .agent)) v ≡ true) ⊎ (isFree (procAt a (t .agent)) v ≡ false) → markerIn (getD (t .env) v 0) ≤ k
+  unfolding words
+  word-fits v (inl f) = ok .covers v f .marker
+  word-fits v (inr f) = rw (ok .bare v f) zero-le
 
-  pub ok-fits : ThreadFits k (cells t)
-  ok-fits = (ok .fine, All-maps (CellFits k) cellOf (t .env) (getD-All (λ x. CellFits k (cellOf x)) (t .env) 0 (λ v. word-fits v (decided (isFree (procAt a (t .agent)) v)))))
+  pub ok-fits : Fits k t
+  ok-fits = (ok .fine, getD-All (λ x. markerIn x ≤ k) (t .env) 0 (λ v. word-fits v (decided (isFree (procAt a (t .agent)) v))))
 
   pub ok-more : (j : ℕ) (less : j ≤ 4096) → k ≤ j → Ok a wf j less es t
   ok-more j less h = record {
@@ -111,7 +109,7 @@ module _ (a : Array) (wf : WellFormed a) (m : Memory) (s : Sound a m) where
   pub oks : All (Ok a wf (length es) few es) c
   oks = formed-all c wide (s .threads)
 
-  pub fits : All (λ t. ThreadFits (length es) (cells t)) c
+  pub fits : All (Fits (length es)) c
   fits = All-map (ok-fits a wf (length es) few es) c oks
 
   module _ (u : Attempt) where
@@ -121,15 +119,10 @@ module _ (a : Array) (wf : WellFormed a) (m : Memory) (s : Sound a m) where
     -- the attempt on words is that of the calculus
     pub decoded-attempt : mapAnswer (decode ds) (decodeWord ds) (attempt (words es) a c u) ≡ attempt calculus a (standsFor a m) u
     unfolding standsFor
-    decoded-attempt = attempt-words a es few (s .listed) c fits u
+    decoded-attempt = attempt-words a es (s .listed) c fits u few
 
-    longer : length es ≤ length ds
-    longer =
-        subst (λ x. length es ≤ length x) (markers-cells a es c u)
-        (after-kept a es (s .listed) (map cells c) (All-maps (ThreadFits (length es)) cells c fits) u .longer)
-
-    ds-listed : Listed ds
-    ds-listed = subst Listed (markers-cells a es c u) (after-kept a es (s .listed) (map cells c) (All-maps (ThreadFits (length es)) cells c fits) u .listed)
+    kept : Kept es ds
+    kept = after-kept a es (s .listed) c fits u
 
     -- the two threads meet, and the markers fit
     module _ (x : Meet (words es) a c u) (less : length ds ≤ 4096) where
@@ -140,7 +133,7 @@ module _ (a : Array) (wf : WellFormed a) (m : Memory) (s : Sound a m) where
       S = getD c (u .sender) (noThread (words es))
 
       more-oks : All (Ok a wf (length ds) less es) c
-      more-oks = All-map (λ t ok. ok-more a wf (length es) few es t ok (length ds) less longer) c oks
+      more-oks = All-map (λ t ok. ok-more a wf (length es) few es t ok (length ds) less (kept .longer)) c oks
 
       R-ok : Ok a wf (length es) few es R
       R-ok = All-getD (Ok a wf (length es) few es) c (u .receiver) (noThread (words es)) oks (x .below .0)
@@ -148,22 +141,13 @@ module _ (a : Array) (wf : WellFormed a) (m : Memory) (s : Sound a m) where
       S-ok : Ok a wf (length es) few es S
       S-ok = All-getD (Ok a wf (length es) few es) c (u .sender) (noThread (words es)) oks (x .below .1)
 
-      after-is : ds ≡ listAfter es (x .p .sort) R S
-      unfolding markersAfter words
-      after-is = ap (λ y. elim y [ none ↦ es | some p ↦ listAfter es (p .sort) R S ]) (x .receiver)
-
-      fine : markerOf (words es) (x .p .sort) R S ≤ length ds
-      fine =
-          subst (λ z. z ≤ length ds) (sym (made-same a es few c (All-map (λ t h. h .0) c fits) u (x .p .sort)))
-          (subst (λ (z : List Entry). markerOf (numbers es) (x .p .sort) (cells R) (cells S) ≤ length z)
-          (list-cells es (x .p .sort) R S ∙ sym after-is) (made-fits es (s .listed) (cells R) (cells S) (R-ok .fine) (S-ok .fine) (x .p .sort)))
-
       next-oks : All (Ok a wf (length ds) less es) (stepped (words es) c u (x .p) (x .q))
       next-oks =
           C.step-ok (words es) a wf (Holds a (length ds)) (λ n. n ≤ length ds) _ c more-oks u x
           (λ n h.
           let g = C.sent-fits (words es) a wf (Holds a (length es)) (λ n. n ≤ length es) _ S S-ok (x .q) (x .sender) (x .sends) n (rw (← x .arities) h) in
-          record { held = g .held; new = g .new; marker = le-trans (g .marker) longer }) fine
+          record { held = g .held; new = g .new; marker = le-trans (g .marker) (kept .longer) })
+          (marker-fits a es (s .listed) c fits u (x .p) (x .receiver))
 
       new-kinds : (y : Sort) → x .p .sort ≡ y → All (Kinds a) es → All (Kinds a) (listAfter es y R S)
       unfolding listAfter extend
@@ -185,18 +169,18 @@ module _ (a : Array) (wf : WellFormed a) (m : Memory) (s : Sound a m) where
           go false = All-append (Kinds a) es (made ∷ []) h (made-kinds, tt)
 
       ds-kinds : All (Kinds a) ds
-      ds-kinds = rw after-is (new-kinds (x .p .sort) refl (below-All (Kinds a) noEntry es (s .kinds)))
+      ds-kinds = rw (after-is a es (s .listed) c fits u (x .p) (x .receiver)) (new-kinds (x .p .sort) refl (below-All (Kinds a) noEntry es (s .kinds)))
 
 -- ---- what is stored is what is read
 
 module _ (a : Array) (m : Memory) (d : Config ℕ ℕ) (ds : List Entry) (w : Wide (a .names) d) where
   pub stored-config : configOf a (store m d ds) ≡ d
   unfolding store
-  stored-config = ap (threadsIn (a .names) (length d)) (put-front (wordsOf d) (m .threads)) ∙ threads-words (a .names) d (drop (length (wordsOf d)) (m .threads)) w
+  stored-config = ap (threadsIn (a .names) (length d)) (put-front (wordsOf d) (m .threads)) ∙ threads-words (a .names) d _ w
 
   pub stored-entries : entriesOf (store m d ds) ≡ ds
   unfolding store
-  stored-entries = ap (entriesIn (length ds)) (put-front (numbersOf ds) (m .markers)) ∙ entries-numbers ds (drop (length (numbersOf ds)) (m .markers))
+  stored-entries = ap (entriesIn (length ds)) (put-front (numbersOf ds) (m .markers)) ∙ entries-numbers ds _
 
   module _ (ht : length d ≤ threadRoom (a .names) (m .threads)) (hm : length ds ≤ markerRoom (m .markers)) where
     same-threads : length (put 0 (wordsOf d) (m .threads)) ≡ length (m .threads)
@@ -320,7 +304,7 @@ module _ (a : Array) (wf : WellFormed a) (m : Memory) (s : Sound a m) (u : Attem
         let f = few-markers (x .4) in
         let all = made-oks (x .0) (x .1) f in
         subst (Sound a) (x .2)
-        (store-sound a m (x .0) DS (step-wide (x .0) (x .1) (x .4)) (x .3) (x .4) (ds-listed a wf m s u) (made-kinds (x .0) (x .1) f)
+        (store-sound a m (x .0) DS (step-wide (x .0) (x .1) (x .4)) (x .3) (x .4) (kept a wf m s u .listed) (made-kinds (x .0) (x .1) f)
         (All-map (λ t ok. ok-formed a wf (length DS) f ES t ok) (x .0) all))
 
     pub step-entries : entriesOf n ≡ DS
@@ -364,9 +348,6 @@ module _ (a : Array) (wf : WellFormed a) (ch : Choices) (m : Memory) where
       fate r (unlisted q h) = absurd (omega arith)
       fate r (stored q h k) = inr (store m begun [], q, store-stands a m begun [] start-wide h k ∙ start-words a ch)
 
-  none-listed : Listed []
-  none-listed = record { ordered = λ k h. absurd (omega arith); distinct = λ k l h i e. absurd (omega arith) }
-
   pub start-sound : (n : Memory) → startIn a ch m ≡ leaves n → Sound a n
   unfolding startIn
   start-sound n = fate (fitted a m begun []) (fitted-fate a m begun [])
@@ -402,14 +383,15 @@ unfolding isNext
 next-of (refused n) e = absurd (false≢true e)
 next-of (next d) e = (d, refl)
 
-found-ready : (a : Array) (ch : Choices) (c : Config Marker (Cell Marker)) (u : Attempt) → firstReady calculus a ch c ≡ hit u
-    → (d : Config Marker (Cell Marker)) × (attempt calculus a c u ≡ next d)
+found-ready : (a : Array) (ch : Choices) (c : Config Marker Cell) (u : Attempt) → firstReady calculus a ch c ≡ hit u
+    → (d : Config Marker Cell) × (attempt calculus a c u ≡ next d)
 unfolding firstReady
 found-ready a ch c u e =
     let x = first-hit (length c) _ u e in
     let y = first-hit (length c) _ u (x .2) in
-    let z = test-hit (not (isNext (attempt calculus a c (try ch (x .0) (y .0))))) (try ch (x .0) (y .0)) u (y .2) in
-    subst (λ v. (d : Config Marker (Cell Marker)) × (attempt calculus a c v ≡ next d)) (z .1) (next-of (attempt calculus a c (try ch (x .0) (y .0))) (not-false _ (z .0)))
+    let v = try ch (x .0) (y .0) in
+    let z = test-hit (not (isNext (attempt calculus a c v))) v u (y .2) in
+    subst (λ w. (d : Config Marker Cell) × (attempt calculus a c w ≡ next d)) (z .1) (next-of (attempt calculus a c v) (not-false _ (z .0)))
 
 -- what a walk says of the calculus
 pub record Told (a : Array) (ch : Choices) (allowed : ℕ) (m : Memory) (w : Walked) : Type 0 where
@@ -431,7 +413,7 @@ module _ (a : Array) (wf : WellFormed a) (ch : Choices) where
       let x = found-ready a ch (standsFor a m) u e in
       go (subst (λ y. Follows a m u y (stepIn a m u)) (x .1) (step-follows a wf m s u))
     where
-      go : {d : Config Marker (Cell Marker)} → Follows a m u (next d) (stepIn a m u) → (stepIn a m u ≡ stops 28) ⊎ (stepIn a m u ≡ stops 29)
+      go : {d : Config Marker Cell} → Follows a m u (next d) (stepIn a m u) → (stepIn a m u ≡ stops 28) ⊎ (stepIn a m u ≡ stops 29)
       go (inl p) = inl (p .0)
       go (inr (inl p)) = inr (p .0)
       go (inr (inr p)) = stop-leave n (p .0) (sym r ∙ p .1)

@@ -2,6 +2,7 @@ pub mod Tree
 pub mod Nodes
 pub mod Reach
 pub mod Closed
+pub mod Searches
 pub mod Verdict
 pub mod Threads
 pub mod Stepped
@@ -14,6 +15,5 @@ pub mod Words
 pub mod Lent
 pub mod Engine
 pub mod Told
-pub mod Decoded
 pub mod Cases
 pub mod Bounds

@@ -3,7 +3,7 @@ use Prim.Native.Nat.{ℕ, zero, suc, _+_, _≤_, _<_, zero-le, suc-le-suc}
 use native.Mathlib.Nat.{not-suc-le-zero, le-of-suc-le-suc, le-trans, le-refl, eq-or-lt-of-le}
 use native.Mathlib.Omega.{arith}
 use mathlib.Core.Path.{_≡_, refl, sym, ap, ap₂, _∙_}
-use mathlib.Core.Logic.{_⊎_, inl, inr, _≢_}
+use mathlib.Core.Logic.{_⊎_, inl, inr, _≢_, ⊎-elim}
 use mathlib.Core.Bool.{Bool, true, false, cond, _&&_, false≢true, true≢false}
 use mathlib.Core.List.{List, [], _∷_, _++_}
 use lib.Dec.{eqb, ltb}
@@ -51,7 +51,8 @@ module _ (es : List Entry) (ok : Listed es) where
       (depths d e (getD es n noEntry .right) (omega arith) (omega arith) (omega arith))
 
   pub decode-suc : (k : ℕ) → k < length es
-      → decode es (suc k) ≡ Marker.node (getD es k noEntry .resource) (getD es k noEntry .out) (decode es (getD es k noEntry .left)) (decode es (getD es k noEntry .right))
+      → decode es (suc k)
+      ≡ Marker.node (getD es k noEntry .resource) (getD es k noEntry .out) (decode es (getD es k noEntry .left)) (decode es (getD es k noEntry .right))
   unfolding decode decodeTo
   decode-suc k h =
       let c = ok .ordered k h in
@@ -116,7 +117,10 @@ entry-eq d e h =
 
 pub entry-same : (e : Entry) → sameEntry e e ≡ true
 unfolding sameEntry
-entry-same e = and-join (and-join (and-join (eq-eqb (e .resource) (e .resource) refl) (eq-eqb (e .out) (e .out) refl)) (eq-eqb (e .left) (e .left) refl)) (eq-eqb (e .right) (e .right) refl)
+entry-same e = and-join (and-join (and-join (self (e .resource)) (self (e .out))) (self (e .left))) (self (e .right))
+  where
+    self : (n : ℕ) → eqb n n ≡ true
+    self n = eq-eqb n n refl
 
 pub position-le : (e : Entry) (es : List Entry) → position e es ≤ length es
 unfolding position
@@ -157,11 +161,9 @@ module _ (es : List Entry) (ok : Listed es) (e : Entry) (hl : e .left ≤ length
   added h = record { ordered = λ k b. at k b (split k b); distinct = λ k l bk bl q. apart k l (split k bk) (split l bl) q }
     where
       split : (k : ℕ) → k < length (es ++ (e ∷ [])) → (k < length es) ⊎ (k ≡ length es)
-      split k b = go (eq-or-lt-of-le (let z : suc k ≤ length es + 1 = rw (length-append es (e ∷ [])) at b in le-of-suc-le-suc (let y : suc k ≤ suc (length es) = omega arith in y)))
-        where
-          go : (k ≡ length es) ⊎ (k < length es) → (k < length es) ⊎ (k ≡ length es)
-          go (inl q) = inr q
-          go (inr q) = inl q
+      split k b =
+          let z : k < length es + 1 = rw (length-append es (e ∷ [])) at b in
+          ⊎-elim (λ q. inr q) (λ q. inl q) (eq-or-lt-of-le (let y : k ≤ length es = omega arith in y))
 
       last : getD (es ++ (e ∷ [])) (length es) noEntry ≡ e
       last = getD-append-seam es e [] noEntry

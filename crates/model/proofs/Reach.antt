@@ -1,33 +1,21 @@
--- Parents, binders and reach. Where refusals 8 and 9 have passed, each node but 0 has one parent, and the names that reach a child are
--- those that reach its parent and those that the parent binds; where 11 has passed, each name has one binder.
-use Prim.Native.Nat.{ℕ, zero, suc, _+_, _≤_, _<_, zero-le}
+-- Parents and reach. Where refusals 8 and 9 have passed, each node but 0 has one parent, and the names that reach a child are those that
+-- reach its parent and those that the parent binds.
+use Prim.Native.Nat.{ℕ, zero, suc, _≤_, _<_}
 use native.Mathlib.Nat.{not-suc-le-zero}
 use native.Mathlib.Omega.{arith}
-use mathlib.Core.Path.{_≡_, refl, sym, ap, _∙_}
+use mathlib.Core.Path.{_≡_}
 use mathlib.Core.Logic.{_⊎_, inl, inr, _≢_, ⊎-elim}
 use mathlib.Core.Bool.{Bool, true, false, _&&_, _||_, false≢true}
-use mathlib.Core.List.{List}
 use lib.Dec.{eqb}
 use borrow.Author.Tests.{eqb-true, eqb-false}
-use Rattle.laws.specs.Search.{clear, any, sum}
+use Rattle.laws.specs.Search.{clear}
 use Rattle.laws.specs.Lists.{has, times}
-use Rattle.laws.proofs.Search.{and-split, and-join, or-split, or-left, or-right, decided, same-test, test-clear, first-clear, any-true, true-any, sum-one, sum-two, sum-some}
+use Rattle.laws.proofs.Search.{and-split, and-join, or-split, or-left, or-right, decided, same-test, test-clear, first-clear, any-true, true-any}
+use Rattle.laws.proofs.Search.{sum-two, sum-some}
 use Rattle.laws.proofs.Lists.{has-times, times-has}
 use Rattle.model.specs.Tree.{Array, nodeAt}
-use Rattle.model.specs.Formed.{children, binds, refusal8, fieldsTo, refusal9, binders, refusal11, reaches, inReach}
+use Rattle.model.specs.Formed.{children, binds, refusal8, fieldsTo, refusal9, reaches, inReach}
 use Rattle.model.proofs.Tree.{parent-below, child-above}
-
--- a number that stands once in all the lists of the numbers below n stands in one of them only
-two-is-one : {n : ℕ} (f : ℕ → List ℕ) (v i j : ℕ) → i < n → j < n → has (f i) v ≡ true → has (f j) v ≡ true → sum n (λ k. times (f k) v) ≡ 1 → i ≡ j
-two-is-one {n} f v i j hi hj bi bj u = go (decided (eqb i j))
-  where
-    go : (eqb i j ≡ true) ⊎ (eqb i j ≡ false) → i ≡ j
-    go (inl e) = eqb-true i j e
-    go (inr e) =
-        let t = sum-two n (λ k. times (f k) v) i j (eqb-false i j e) hi hj in
-        let x = has-times (f i) v bi in
-        let y = has-times (f j) v bj in
-        absurd (omega arith)
 
 -- node c is a child of node j
 abbrev pub IsChild : Array → ℕ → ℕ → Type 0
@@ -61,10 +49,17 @@ module _ (a : Array) (ok : refusal8 a ≡ clear) (one : refusal9 a ≡ clear) wh
 
   pub one-parent : (c i j : ℕ) → IsChild a i c → IsChild a j c → i ≡ j
   unfolding fieldsTo
-  one-parent c i j ci cj =
-      let b = child-above a ok i c ci in
-      let u = fields-one c (b .1) (λ z. absurd (omega (arith, b .0))) in
-      two-is-one (λ k. children (nodeAt a k)) c i j (parent-below a i c ci) (parent-below a j c cj) ci cj u
+  one-parent c i j ci cj = go (decided (eqb i j))
+    where
+      go : (eqb i j ≡ true) ⊎ (eqb i j ≡ false) → i ≡ j
+      go (inl e) = eqb-true i j e
+      go (inr e) =
+          let b = child-above a ok i c ci in
+          let u = fields-one c (b .1) (λ z. absurd (omega (arith, b .0))) in
+          let t = sum-two (a .size) (λ k. times (children (nodeAt a k)) c) i j (eqb-false i j e) (parent-below a i c ci) (parent-below a j c cj) in
+          let x = has-times (children (nodeAt a i)) c ci in
+          let y = has-times (children (nodeAt a j)) c cj in
+          absurd (omega arith)
 
   -- every node but 0 has a parent, below it in number
   pub parent : (c : ℕ) → c < a .size → c ≢ 0 → (j : ℕ) × (j < c) × IsChild a j c
@@ -116,7 +111,9 @@ module _ (a : Array) (ok : refusal8 a ≡ clear) (one : refusal9 a ≡ clear) wh
   -- nothing reaches the root
   pub reach-root : (v : ℕ) → inReach a v 0 ≡ false
   unfolding inReach reaches
-  reach-root v = ⊎-elim (λ (e : reaches (a .size) a v 0 ≡ true). absurd (above (a .size) e)) (λ (e : reaches (a .size) a v 0 ≡ false). e) (decided (reaches (a .size) a v 0))
+  reach-root v =
+      ⊎-elim (λ (e : reaches (a .size) a v 0 ≡ true). absurd (above (a .size) e)) (λ (e : reaches (a .size) a v 0 ≡ false). e)
+      (decided (reaches (a .size) a v 0))
     where
       above : (d : ℕ) → reaches d a v 0 ≡ true → ⊥
       above zero e = false≢true e
@@ -124,22 +121,3 @@ module _ (a : Array) (ok : refusal8 a ≡ clear) (one : refusal9 a ≡ clear) wh
           let s = any-true (a .size) (λ j. has (children (nodeAt a j)) 0 && by d a v j) e in
           let t = and-split (has (children (nodeAt a (s .0))) 0) (by d a v (s .0)) (s .2) in
           not-suc-le-zero (child-above a ok (s .0) 0 (t .0) .0)
-
--- ---- binders
-
-module _ (a : Array) (once : refusal11 a ≡ clear) (v : ℕ) (h : v < a .names) where
-  bound-once : binders a v ≡ 1
-  unfolding refusal11
-  bound-once = eqb-true _ 1 (test-clear _ _ (first-clear (a .names) _ once v h))
-
-  -- every name has a binder, and one only
-  pub binder : (j : ℕ) × (j < a .size) × (has (binds (nodeAt a j)) v ≡ true)
-  unfolding binders
-  binder =
-      let u = bound-once in
-      let s = sum-some (a .size) (λ k. times (binds (nodeAt a k)) v) (omega arith) in
-      (s .0, s .1, times-has (binds (nodeAt a (s .0))) v (s .2))
-
-  pub one-binder : (i j : ℕ) → i < a .size → j < a .size → has (binds (nodeAt a i)) v ≡ true → has (binds (nodeAt a j)) v ≡ true → i ≡ j
-  unfolding binders
-  one-binder i j hi hj bi bj = two-is-one (λ k. binds (nodeAt a k)) v i j hi hj bi bj bound-once

@@ -7,7 +7,7 @@ use native.Mathlib.Numerals.{add-one}
 use native.Mathlib.Omega.{arith}
 use mathlib.Core.Path.{_≡_, refl, sym, ap, _∙_, subst}
 use mathlib.Core.Logic.{_≢_}
-use mathlib.Core.Bool.{true, false, not, false≢true, true≢false}
+use mathlib.Core.Bool.{true, not, false≢true, true≢false}
 use mathlib.Core.List.{List, [], _∷_, _++_}
 use lib.Dec.{eqb}
 use lib.ListN.{length, getD, replicate}
@@ -17,8 +17,8 @@ use Rattle.laws.proofs.Search.{and-split, or-right}
 use Rattle.laws.proofs.Lists.{All-map}
 use Rattle.model.specs.Tree.{Array, Sort, out, inp, resource, Agent, agentAt, procAt, receives, load, isNew}
 use Rattle.model.specs.Formed.{WellFormed}
-use Rattle.model.specs.Calculus.{Marker, Cell, unheld, holds, sameMarker, sameCell, calculus, Choices, Thread, Config, Attempt, bind}
-use Rattle.model.specs.Calculus.{keep, stays, noThread, sentCells, markerOf, receiverLeaves, senderLeaves, stepped, start, after, attempt}
+use Rattle.model.specs.Calculus.{Marker, Cell, unheld, holds, sameMarker, sameCell, calculus, Choices, Thread, Config, Attempt}
+use Rattle.model.specs.Calculus.{keep, stays, noThread, markerOf, receiverLeaves, senderLeaves, stepped, start, after, attempt}
 use Rattle.model.specs.Calculus.{attempts, run}
 use Rattle.model.specs.Rules.{Table, balanceOf, Live, taken, Rules, ClaimsFit, rowBits, held, verdict}
 use Rattle.model.specs.Safe.{weighed, count, Safe}
@@ -29,10 +29,10 @@ use Rattle.model.proofs.Covers as C
 
 -- threads, cells and configurations of the calculus
 abbrev pub Th : Type 0
-Th = Thread Marker (Cell Marker)
+Th = Thread Marker Cell
 
 abbrev pub Conf : Type 0
-Conf = Config Marker (Cell Marker)
+Conf = Config Marker Cell
 
 abbrev pub thread : Conf → ℕ → Th
 thread c i = getD c i (noThread calculus)
@@ -49,7 +49,7 @@ few B m n s h k =
 
 module _ (a : Array) (t : Table) (wf : WellFormed a) (rules : Rules a t) where
   -- a cell holds an opening that name v may hold
-  pub record Fits (c : Cell Marker) (v : ℕ) : Type 0 where
+  pub record Fits (c : Cell) (v : ℕ) : Type 0 where
     pub opening : ℕ
     pub marker : Marker
     pub held : c ≡ holds opening marker
@@ -111,7 +111,7 @@ module _ (a : Array) (t : Table) (wf : WellFormed a) (rules : Rules a t) where
     shared =
         let f = C.channel-fits calculus a wf Fits Fine opens R R-ok (m .p) (m .receiver) in
         let g = C.channel-fits calculus a wf Fits Fine opens S S-ok (m .q) (m .sender) in
-        let z : sameCell sameMarker (holds (f .opening) (f .marker)) (holds (g .opening) (g .marker)) ≡ true = rw (f .held, g .held) at (m .channels) in
+        let z : sameCell (holds (f .opening) (f .marker)) (holds (g .opening) (g .marker)) ≡ true = rw (f .held, g .held) at (m .channels) in
         let n : f .opening ≡ g .opening = eqb-true _ _ (and-split (eqb (f .opening) (g .opening)) (sameMarker (f .marker) (g .marker)) z .0) in
         (f .opening, f .small, f .bit, rw n (g .bit))
 
@@ -122,7 +122,8 @@ module _ (a : Array) (t : Table) (wf : WellFormed a) (rules : Rules a t) where
       arities = m .arities;
       shares = shared;
       fits = λ k h.
-          le-trans (two-le (λ th. (t .balance k) .weight (th .agent)) (noThread calculus) c (u .receiver) (u .sender) apart (m .below .0) (m .below .1)) (inv .balances k h);
+          let w : Th → ℕ = λ th. (t .balance k) .weight (th .agent) in
+          le-trans (two-le w (noThread calculus) c (u .receiver) (u .sender) apart (m .below .0) (m .below .1)) (inv .balances k h);
     }
 
     -- what is sent fits its parameter
@@ -130,16 +131,18 @@ module _ (a : Array) (t : Table) (wf : WellFormed a) (rules : Rules a t) where
     arrives n h =
         let hq : n < length (m .q .args) = rw (← m .arities) h in
         let g = C.sent-fits calculus a wf Fits Fine opens S S-ok (m .q) (m .sender) (m .sends) n hq in
+        let three = rules .rule3 (R .agent) (R-ok .below) (S .agent) (S-ok .below) (m .p) (m .q) (m .receiver) (m .sender) pair n h in
         record {
           opening = g .opening;
           marker = g .marker;
           held = g .held;
-          bit = rules .rule3 (R .agent) (S .agent) (R-ok .below) (S-ok .below) (m .p) (m .q) (m .receiver) (m .sender) pair n h (g .opening) (g .small) (g .bit);
+          bit = three (g .opening) (g .small) (g .bit);
           small = g .small;
         }
 
     -- what stays, and what a step takes off
-    left-over : (w : ℕ → ℕ) → weighed w (keep (stays (m .p .sort) (u .receiver) (u .sender)) c) + (w (S .agent) + taken (m .p .sort) (w (R .agent))) ≡ weighed w c
+    left-over : (w : ℕ → ℕ)
+        → weighed w (keep (stays (m .p .sort) (u .receiver) (u .sender)) c) + (w (S .agent) + taken (m .p .sort) (w (R .agent))) ≡ weighed w c
     unfolding receives stays taken
     left-over w = go (m .p .sort) (m .receives)
       where
@@ -157,13 +160,14 @@ module _ (a : Array) (t : Table) (wf : WellFormed a) (rules : Rules a t) where
             (λ i x y. rw (ne-eqb i r x, ne-eqb i s y)) in
             omega arith
         go resource e =
-            let k = keep-one (λ th. w (th .agent)) (noThread calculus) (stays resource r s) c s (m .below .1) (rw (eq-eqb s s refl)) (λ i x. rw (ne-eqb i s x)) in
+            let k = keep-one (λ th. w (th .agent)) (noThread calculus) (stays resource r s) c s (m .below .1) (rw (eq-eqb s s refl))
+            (λ i x. rw (ne-eqb i s x)) in
             omega arith
 
     -- what a receiver becomes and what a sender leaves weigh no more than their loads
     becomes : (w : ℕ → ℕ) → weighed w (receiverLeaves calculus (u .choices) R S (m .p) (m .q)) ≤ load w (m .p .body)
     unfolding receiverLeaves
-    becomes w = weighed-unfold calculus w (u .choices) (markerOf calculus (m .p .sort) R S) (bind (m .p .args) (sentCells calculus S (m .q)) (R .env)) (m .p .body)
+    becomes w = weighed-unfold calculus w (u .choices) (markerOf calculus (m .p .sort) R S) _ (m .p .body)
 
     goes : (w : ℕ → ℕ) → weighed w (senderLeaves calculus (u .choices) S (m .q)) ≤ load w (m .q .body)
     unfolding senderLeaves
@@ -182,7 +186,7 @@ module _ (a : Array) (t : Table) (wf : WellFormed a) (rules : Rules a t) where
           let hx = becomes w in
           let hy = goes w in
           let hk = left-over w in
-          let four = rules .rule4 (R .agent) (S .agent) (R-ok .below) (S-ok .below) (m .p) (m .q) (m .receiver) (m .sender) pair k h in
+          let four = rules .rule4 (R .agent) (R-ok .below) (S .agent) (S-ok .below) (m .p) (m .q) (m .receiver) (m .sender) pair k h in
           rw (total-append (λ th. w (th .agent)) kept (x ++ y), total-append (λ th. w (th .agent)) x y) (omega arith);
     }
 
@@ -206,7 +210,8 @@ module _ (a : Array) (t : Table) (wf : WellFormed a) (rules : Rules a t) where
         (inv .balances (t .claim n .balance) (fit n h))
         (count-weighed (balanceOf t n .weight) (λ i. eqb i (t .claim n .agent)) (suc (balanceOf t n .bound)) (t .claim n .most + 1)
         (λ i e.
-        subst (λ x. suc (balanceOf t n .bound) ≤ (t .claim n .most + 1) * balanceOf t n .weight x) (sym (eqb-true _ _ e)) (rw mul-comm at (rules .rule5 n h))) c);
+        let five = rw mul-comm at (rules .rule5 n h) in
+        subst (λ x. suc (balanceOf t n .bound) ≤ (t .claim n .most + 1) * balanceOf t n .weight x) (sym (eqb-true _ _ e)) five) c);
   }
 
 -- Demand 3: a well-formed array, a table whose claims name its balances, accepted; any choices at the start, any list of attempts.

@@ -1,6 +1,6 @@
 -- The walk told step by step: what it does next is the first step of the whole walk, is a step or an ending of the calculus, and keeps
 -- what refusal 23 asks.
-use Prim.Native.Nat.{ℕ, zero, suc, _-_, _≤_, _<_}
+use Prim.Native.Nat.{ℕ, zero, suc, _-_, _<_}
 use native.Mathlib.Omega.{arith}
 use mathlib.Core.Path.{_≡_, refl, sym, ap, ap₂, _∙_, subst}
 use mathlib.Core.Logic.{_⊎_, inl, inr}
@@ -8,23 +8,21 @@ use mathlib.Core.Bool.{Bool, true, false, cond, true≢false}
 use mathlib.Core.List.{List}
 use mathlib.Core.Option.{none, some}
 use lib.Dec.{eqb}
-use lib.ListN.{length, getD, List·getD-map}
+use lib.ListN.{getD, List·getD-map}
 use borrow.Author.Tests.{eqb-true, eqb-false, ne-eqb}
 use Rattle.laws.specs.Search.{Found, clear, hit}
 use Rattle.laws.proofs.Search.{decided}
-use Rattle.laws.proofs.Lists.{All-getD, All-map}
-use Rattle.model.specs.Tree.{Array, Sort, out, inp, resource, agentAt}
+use Rattle.model.specs.Tree.{Array, agentAt}
 use Rattle.model.specs.Formed.{WellFormed}
 use Rattle.model.specs.Calculus.{Marker, Cell, calculus, Choices, Thread, Config, Attempt, noThread, markerOf}
-use Rattle.model.specs.Numbers.{Entry, decodeTo, decode, nobody, listAfter, markersAfter}
+use Rattle.model.specs.Numbers.{Entry, decodeTo, decode, nobody, markersAfter}
 use Rattle.model.specs.declared.Ending.{Ending}
 use Rattle.model.specs.declared.Ending.the-variants.{Quiet, Spent, Full}
 use Rattle.model.specs.Memory.{Memory, words, configOf, entriesOf, Result, stops, leaves, stepIn, firstReady, standsFor}
 use Rattle.model.specs.Memory.{ends, more, onPair, onStep, walkIn, markerMade, ended, moved, onResult, turnIn, onFound, nextIn, resumed}
 use Rattle.model.specs.Memory.{Turned, Tells}
 use Rattle.model.proofs.Stepped.{Meet, attempt-next}
-use Rattle.model.proofs.Markers.{extend-new}
-use Rattle.model.proofs.Words.{decoded}
+use Rattle.model.proofs.Words.{decoded, marker-stands}
 use Rattle.model.proofs.Lent.{Sound}
 use Rattle.model.proofs.Engine.{fits, first-decoded, no-room, step-made, step-sound, step-entries, step-stands}
 
@@ -71,20 +69,9 @@ module _ (a : Array) (wf : WellFormed a) (m : Memory) (s : Sound a m) (u : Attem
   unfolding standsFor calculus decode decodeTo
   thread-stands i = List·getD-map (decoded es) c i nobody
 
-  -- the marker told, and the marker that the receiver's continuation runs under
-  made-stands : R .marker ≤ length es → S .marker ≤ length es → (y : Sort)
-      → decode (listAfter es y R S) (markerOf (words es) y R S) ≡ markerOf calculus y (decoded es R) (decoded es S)
-  unfolding listAfter markerOf words calculus
-  made-stands hr hs out = refl
-  made-stands hr hs inp = refl
-  made-stands hr hs resource = extend-new es (s .listed) record { resource = R .agent; out = S .agent; left = R .marker; right = S .marker } hr hs
-
   module _ (n : Memory) (r : stepIn a m u ≡ leaves n) where
     meet : Meet (words es) a c u
     meet = let x = step-made a wf m s u n r in attempt-next (words es) a c u (x .0) (x .1) .0
-
-    marker-below : (i : ℕ) → i < length c → getD c i nobody .marker ≤ length es
-    marker-below i h = All-getD (λ t. t .marker ≤ length es) c i nobody (All-map (λ t f. f .0) c (fits a wf m s)) h
 
     acts : agentAt a (R .agent) ≡ some (meet .p)
     unfolding words
@@ -94,22 +81,20 @@ module _ (a : Array) (wf : WellFormed a) (m : Memory) (s : Sound a m) (u : Attem
     unfolding markerMade
     told-is = ap (λ y. elim y [ none ↦ 0 | some p ↦ markerOf (words es) (p .sort) R S ]) acts
 
-    after-is : markersAfter a es c u ≡ listAfter es (meet .p .sort) R S
-    unfolding markersAfter
-    after-is = ap (λ y. elim y [ none ↦ es | some p ↦ listAfter es (p .sort) R S ]) acts
+    stands : decode (markersAfter a es c u) (markerOf (words es) (meet .p .sort) R S) ≡ markerOf calculus (meet .p .sort) (decoded es R) (decoded es S)
+    unfolding words
+    stands = marker-stands a es (s .listed) c (fits a wf m s) u (meet .p) (meet .receiver)
 
     pub turned : (ch : Choices) → firstReady calculus a ch (standsFor a m) ≡ hit u → Turned a ch m u n
-    turned ch e =
-        let t = made-stands (marker-below (u .receiver) (meet .below .0)) (marker-below (u .sender) (meet .below .1)) (meet .p .sort) in
-        record {
-          first = e;
-          steps = step-stands a wf m s u n r;
-          receiver = meet .p;
-          acts = ap (λ (t : Thread Marker (Cell Marker)). agentAt a (t .agent)) (thread-stands (u .receiver)) ∙ acts;
-          marker =
-              ap₂ decode (step-entries a wf m s u n r ∙ after-is) told-is ∙ t
-              ∙ sym (ap₂ (markerOf calculus (meet .p .sort)) (thread-stands (u .receiver)) (thread-stands (u .sender)));
-        }
+    turned ch e = record {
+      first = e;
+      steps = step-stands a wf m s u n r;
+      receiver = meet .p;
+      acts = ap (λ (t : Thread Marker Cell). agentAt a (t .agent)) (thread-stands (u .receiver)) ∙ acts;
+      marker =
+          ap₂ decode (step-entries a wf m s u n r) told-is ∙ stands
+          ∙ sym (ap₂ (markerOf calculus (meet .p .sort)) (thread-stands (u .receiver)) (thread-stands (u .sender)));
+    }
 
 -- ---- what a walk does next
 

@@ -123,7 +123,8 @@ module _ (a : Array) (named : refusal10 a ≡ clear) where
   below-all ys e = All-map (λ y k. ltb-true y (a .names) k) ys (all-true _ ys e)
 
   -- so are an agent's arguments, sent or bound
-  args-below : (s : Sort) (ys : List ℕ) → all (λ v. ltb v (a .names)) (sent s ys) ≡ true → all (λ v. ltb v (a .names)) (params s ys) ≡ true → All (λ y. y < a .names) ys
+  args-below : (s : Sort) (ys : List ℕ) → all (λ v. ltb v (a .names)) (sent s ys) ≡ true → all (λ v. ltb v (a .names)) (params s ys) ≡ true
+      → All (λ y. y < a .names) ys
   unfolding sent params
   args-below out ys e f = below-all ys e
   args-below inp ys e f = below-all ys f

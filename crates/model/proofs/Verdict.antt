@@ -1,42 +1,33 @@
--- The verdict is held exactly where the five rules hold; where it is broken, the named rule fails at the named place and everything
--- before it holds. Each check is read both ways, found nothing and found something, from the laws of searches.
-use Prim.Native.Nat.{ℕ, zero, suc, _+_, _*_, _≤_, _<_}
-use native.Mathlib.Nat.{lt-of-lt-of-le}
-use mathlib.Core.Path.{_≡_, refl, sym, ap, _∙_, subst}
-use mathlib.Core.Logic.{_⊎_, inl, inr, _↔_, ⊎-elim}
-use mathlib.Core.Bool.{Bool, true, false, not, _&&_, _||_, false≢true, true≢false}
+-- The verdict is held exactly where the five rules hold; where it is broken, the named rule is false at the named place and everything
+-- before it holds. Each rule's test decides its statement (decides1 to decides5); the rest is the laws of searches (Searches), so another
+-- rule means its statement, its test and its lemma here. What a false rule lacks or exceeds follows at the end.
+use Prim.Native.Nat.{ℕ, suc, _+_, _≤_, _<_}
+use native.Mathlib.Nat.{lt-of-not-le, le-of-suc-le-suc}
+use mathlib.Core.Path.{_≡_, refl, ap, subst}
+use mathlib.Core.Logic.{_↔_}
+use mathlib.Core.Bool.{Bool, true, false, not, _&&_}
 use mathlib.Core.Option.{Option, none, some}
-use mathlib.Core.List.{List, [], _∷_}
-use lib.Dec.{eqb, leb, ltb}
-use lib.ListN.{length, getD}
-use borrow.Author.Tests.{ltb-true, ltb-false, leb-true, leb-false, eqb-true, lt-ltb, le-leb, eq-eqb, not-true, not-false}
-use Rattle.laws.specs.Search.{Found, clear, hit, test, andThen, first, every}
-use Rattle.laws.proofs.Search.{and-split, and-join, or-false, implies, implied, clear-hit, test-clear, clear-test, test-hit, andThen-split, andThen-join}
-use Rattle.laws.proofs.Search.{andThen-hit, under-clear, clear-under, under-hit, first-clear, clear-first, first-hit, every-true, true-every}
-use Rattle.laws.proofs.Search.{every-false, any-true, true-any}
-use Rattle.model.specs.Tree.{Array, Agent, agentAt, receives, isNew}
-use Rattle.model.specs.Rules.{Table, Balance, rowBits, balanceOf, Within, within, Live, live, shareBit, fitBoth, Rule1At, rootLoad, Rule2At}
-use Rattle.model.specs.Rules.{Rule3At, taken, loadLeft, weightGone, Rule4At, claimWeight, Rule5At, PairAt, Pairs, Rule1, Rule2, Rule3, Rule4}
-use Rattle.model.specs.Rules.{Rule5, Rules, Broken, Verdict, held, at, onLive, pairs, check1, check2, arguments3, check3, balances4, check4}
-use Rattle.model.specs.Rules.{check5, verdict, Before, FirstPair, Fails3, Fails4, FirstBroken, broken1, broken2, broken3, broken4, broken5}
+use mathlib.Core.List.{[], _∷_}
+use lib.Dec.{leb}
+use lib.ListN.{getD}
+use borrow.Author.Tests.{ltb-true, leb-true, eqb-true, lt-ltb, le-leb, eq-eqb, not-true, not-false}
+use Rattle.laws.specs.Search.{clear, hit, test, first}
+use Rattle.laws.proofs.Search.{and-split, and-join, or-false, implies, implied, clear-hit, every-true, true-every, every-false, any-true, true-any}
+use Rattle.model.specs.Tree.{Array, Agent, agentAt, isNew}
+use Rattle.model.specs.Rules.{Table, Balance, rowBits, balanceOf, Within, within, Live, live, shareBit, fitBoth, Rule1At, rule1At, rootLoad, Rule2At}
+use Rattle.model.specs.Rules.{rule2At, Rule3At, rule3At, loadLeft, weightGone, Rule4At, rule4At, claimWeight, Rule5At, rule5At, Pairs, arity}
+use Rattle.model.specs.Rules.{Rules, Broken, Verdict, held, at, onLive, pairs, check1, check2, arguments3, check3}
+use Rattle.model.specs.Rules.{balances4, check4, check5, verdict, FirstAt, FirstPair, FirstBroken, broken1, broken2, broken3, broken4, broken5}
+use Rattle.model.proofs.Searches.{Decides, refutes, Finds, finds-as, under-finds, andThen-finds, first-finds, tests-find}
 
--- ---- rows and live pairs
+-- ---- tests and what they decide
 
-pub within-Within : (t : Table) (u v : ℕ) → within t u v ≡ true → Within t u v
+decides-le : (m n : ℕ) → Decides (leb m n) (m ≤ n)
+decides-le m n = (leb-true m n, le-leb m n)
+
+decides-within : (t : Table) (u v : ℕ) → Decides (within t u v) (Within t u v)
 unfolding within
-within-Within t u v e o h s = implies _ _ (every-true rowBits _ e o h) s
-
-pub Within-within : (t : Table) (u v : ℕ) → Within t u v → within t u v ≡ true
-unfolding within
-Within-within t u v w = true-every rowBits _ (λ o h. implied _ _ (w o h))
-
--- a row that is not contained has an opening that the other lacks
-lacking : (t : Table) (u v : ℕ) → within t u v ≡ false → (o : ℕ) × (o < rowBits) × (t .row u o ≡ true) × (t .row v o ≡ false)
-unfolding within
-lacking t u v e =
-    let s = every-false rowBits _ e in
-    let k = or-false (not (t .row u (s .0))) (t .row v (s .0)) (s .2) in
-    (s .0, s .1, not-false _ (k .0), k .1)
+decides-within t u v = (λ e o h s. implies _ _ (every-true rowBits _ e o h) s, λ w. true-every rowBits _ (λ o h. implied _ _ (w o h)))
 
 module _ (t : Table) (i j : ℕ) (p q : Agent) where
   pub live-Live : live t i j p q ≡ true → Live t i j p q
@@ -63,241 +54,134 @@ module _ (t : Table) (i j : ℕ) (p q : Agent) where
       let fi : fitBoth t i j ≡ true = true-every (t .balances) _ (λ k h. le-leb _ _ (l .fits k h)) in
       and-join (and-join (and-join (and-join (l .receiver) (ap not (l .sender))) (eq-eqb _ _ (l .arities))) sh) fi
 
-module _ (t : Table) (i j : ℕ) (f : Agent → Agent → Verdict) where
-  onLive-clear : (x y : Option Agent) → onLive t i j x y f ≡ clear → (p q : Agent) → x ≡ some p → y ≡ some q → Live t i j p q → f p q ≡ clear
-  unfolding onLive
-  onLive-clear x y e p q ex ey l =
-      let h : onLive t i j (some p) (some q) f ≡ clear = rw (ex, ey) at e in
-      under-clear (live t i j p q) (f p q) h (Live-live t i j p q l)
+-- row v has in u every bit that it has in t
+abbrev pub Wider : Table → Table → ℕ → Type 0
+Wider t u v = (o : ℕ) → o < rowBits → t .row v o ≡ true → u .row v o ≡ true
 
-  clear-onLive : (x y : Option Agent) → ((p q : Agent) → x ≡ some p → y ≡ some q → Live t i j p q → f p q ≡ clear) → onLive t i j x y f ≡ clear
-  unfolding onLive
-  clear-onLive none y h = refl
-  clear-onLive (some p) none h = refl
-  clear-onLive (some p) (some q) h = clear-under (live t i j p q) (f p q) (λ e. h p q refl refl (live-Live t i j p q e))
+-- More rows, more live pairs; more balances, fewer: a live pair of t lives in u, where the two channels' rows have every bit that they
+-- have in t, and each balance of u is one of t. A mended table widens rows, a pooled one takes the bits of both and all balances (02).
+pub live-more : (t u : Table) {i j : ℕ} {p q : Agent} → Wider t u (p .channel) → Wider t u (q .channel)
+    → ((k : ℕ) → k < u .balances → (l : ℕ) × (l < t .balances) × (t .balance l ≡ u .balance k)) → Live t i j p q → Live u i j p q
+live-more t u {i} {j} wp wq among l = record {
+  receiver = l .receiver;
+  sender = l .sender;
+  arities = l .arities;
+  shares = let s = l .shares in (s .0, s .1, wp (s .0) (s .1) (s .2), wq (s .0) (s .1) (s .3));
+  fits = λ k h. let b = among k h in subst (λ (x : Balance). x .weight i + x .weight j ≤ x .bound) (b .2) (l .fits (b .0) (b .1));
+}
 
-  onLive-hit : (b : Broken) (x y : Option Agent) → onLive t i j x y f ≡ hit b
-      → (p : Agent) × (q : Agent) × (x ≡ some p) × (y ≡ some q) × Live t i j p q × (f p q ≡ hit b)
-  unfolding onLive
-  onLive-hit b none y e = clear-hit b e
-  onLive-hit b (some p) none e = clear-hit b e
-  onLive-hit b (some p) (some q) e = let s = under-hit (live t i j p q) (f p q) b e in (p, q, refl, refl, live-Live t i j p q (s .0), s .1)
+-- the rules, each at one place
+
+pub decides1 : (a : Array) (t : Table) (o : ℕ) → Decides (rule1At a t o) (Rule1At a t o)
+decides1 a t o = (implies (isNew a o) (t .row o o), implied (isNew a o) (t .row o o))
+
+pub decides2 : (a : Array) (t : Table) (k : ℕ) → Decides (rule2At a t k) (Rule2At a t k)
+decides2 a t k = decides-le _ _
+
+pub decides3 : (t : Table) (p q : Agent) (n : ℕ) → Decides (rule3At t p q n) (Rule3At t p q n)
+decides3 t p q n = decides-within t _ _
+
+pub decides4 : (t : Table) (i j : ℕ) (p q : Agent) (k : ℕ) → Decides (rule4At t i j p q k) (Rule4At t i j p q k)
+decides4 t i j p q k = decides-le _ _
+
+pub decides5 : (t : Table) (c : ℕ) → Decides (rule5At t c) (Rule5At t c)
+decides5 t c = (ltb-true _ _, lt-ltb _ _)
 
 -- ---- a search over the pairs
 
-module _ (a : Array) (t : Table) (f : ℕ → ℕ → Agent → Agent → Verdict) where
-  pairs-clear : pairs a t f ≡ clear → Pairs a t (λ i j p q. f i j p q ≡ clear)
-  unfolding pairs
-  pairs-clear e i j hi hj p q ep eq l =
-      onLive-clear t i j (f i j) (agentAt a i) (agentAt a j) (first-clear (a .size) _ (first-clear (a .size) _ e i hi) j hj) p q ep eq l
+-- at a live pair of agents
+onLive-finds : (t : Table) (i j : ℕ) (f : Agent → Agent → Verdict) {P : Agent → Agent → Type 0} {F : Agent → Agent → Broken → Type 0}
+    → ((p q : Agent) → Finds (f p q) (P p q) (F p q)) → (x y : Option Agent)
+    → Finds (onLive t i j x y f) ((p q : Agent) → x ≡ some p → y ≡ some q → Live t i j p q → P p q)
+    (λ b. (p : Agent) × (q : Agent) × (x ≡ some p) × (y ≡ some q) × Live t i j p q × F p q b)
+unfolding onLive
+onLive-finds t i j f {P} {F} g x y = record { nothing = (λ e p q ex ey. here p q .nothing .0 (rw (ex, ey) at e), clears x y); found = λ b. hits b x y }
+  where
+    here : (p q : Agent) → Finds (onLive t i j (some p) (some q) f) (Live t i j p q → P p q) (λ b. Live t i j p q × F p q b)
+    here p q = under-finds (live-Live t i j p q, Live-live t i j p q) (g p q)
 
-  clear-pairs : Pairs a t (λ i j p q. f i j p q ≡ clear) → pairs a t f ≡ clear
-  unfolding pairs
-  clear-pairs h =
-      clear-first (a .size) _ λ i hi. clear-first (a .size) _ λ j hj.
-      clear-onLive t i j (f i j) (agentAt a i) (agentAt a j) (λ p q ep eq l. h i j hi hj p q ep eq l)
+    clears : (x y : Option Agent) → ((p q : Agent) → x ≡ some p → y ≡ some q → Live t i j p q → P p q) → onLive t i j x y f ≡ clear
+    clears none y h = refl
+    clears (some p) none h = refl
+    clears (some p) (some q) h = here p q .nothing .1 (h p q refl refl)
 
-  -- what is found is found at the lowest receiver, and for it at the lowest sender
-  pairs-hit : (b : Broken) → pairs a t f ≡ hit b
-      → (i : ℕ) × (j : ℕ) × FirstPair a t (λ k l p q. f k l p q ≡ clear) i j (λ p q. f i j p q ≡ hit b)
-  unfolding pairs
-  pairs-hit b e =
-      let s = first-hit (a .size) _ b e in
-      let u = first-hit (a .size) _ b (s .2) in
-      let l = onLive-hit t (s .0) (u .0) (f (s .0) (u .0)) b (agentAt a (s .0)) (agentAt a (u .0)) (u .2) in (
-        s .0,
-        u .0,
-        record {
-          below = (s .1, u .1);
-          p = l .0;
-          q = l .1;
-          receiver = l .2;
-          sender = l .3;
-          lives = l .4;
-          fails = l .5;
-          earlier = λ k m before hk hm p q ep eq v.
-              onLive-clear t k m (f k m) (agentAt a k) (agentAt a m) (passed (s .0) (u .0) (s .3) (u .3) k m before hm) p q ep eq v;
-        },
-      )
-    where
-      passed : (i j : ℕ) → ((k : ℕ) → k < i → first (a .size) (λ l. onLive t k l (agentAt a k) (agentAt a l) (f k l)) ≡ clear)
-          → ((l : ℕ) → l < j → onLive t i l (agentAt a i) (agentAt a l) (f i l) ≡ clear)
-          → (k m : ℕ) → Before k m i j → m < a .size → onLive t k m (agentAt a k) (agentAt a m) (f k m) ≡ clear
-      passed i j lower beside k m (inl h) hm = first-clear (a .size) _ (lower k h) m hm
-      passed i j lower beside k m (inr h) hm = rw (h .0) (beside m (h .1))
+    hits : (b : Broken) (x y : Option Agent) → onLive t i j x y f ≡ hit b
+        → (p : Agent) × (q : Agent) × (x ≡ some p) × (y ≡ some q) × Live t i j p q × F p q b
+    hits b none y e = clear-hit b e
+    hits b (some p) none e = clear-hit b e
+    hits b (some p) (some q) e = let s = here p q .found b e in (p, q, refl, refl, s .0, s .1)
 
--- what a search found at a pair, said in the rule's words
-restate : {a : Array} {t : Table} {H H′ : ℕ → ℕ → Agent → Agent → Type 0} {i j : ℕ} {F F′ : Agent → Agent → Type 0}
-    → (f : FirstPair a t H i j F) → F′ (f .p) (f .q) → ((k l : ℕ) (p q : Agent) → H k l p q → H′ k l p q) → FirstPair a t H′ i j F′
-restate f fails holds = record {
-  below = f .below;
-  p = f .p;
-  q = f .q;
-  receiver = f .receiver;
-  sender = f .sender;
-  lives = f .lives;
-  fails = fails;
-  earlier = λ k l b hk hl p q ep eq v. holds k l p q (f .earlier k l b hk hl p q ep eq v);
-}
+-- what is found is found at the lowest receiver, for it at the lowest sender, and there at the lowest figure
+pairs-find : (a : Array) (t : Table) (count : Agent → ℕ) (place : ℕ → ℕ → ℕ → Broken) {b : ℕ → ℕ → Agent → Agent → ℕ → Bool}
+    {P : ℕ → ℕ → Agent → Agent → ℕ → Type 0} {F : Broken → Type 0} → ((i j : ℕ) (p q : Agent) (n : ℕ) → Decides (b i j p q n) (P i j p q n))
+    → ((i j n : ℕ) → FirstPair a t count P i j n → F (place i j n))
+    → Finds (pairs a t (λ i j p q. first (count p) (λ n. test (b i j p q n) (place i j n)))) (Pairs a t count P) F
+unfolding pairs
+pairs-find a t count place {b} {P} {F} decides fails =
+    finds-as
+    (first-finds (a .size) λ i. first-finds (a .size) λ j.
+    onLive-finds t i j _
+    (λ p q. tests-find (count p) (place i j) {F = λ c. (n : ℕ) × (place i j n ≡ c) × FirstAt (count p) (P i j p q) n} (decides i j p q) (λ n f. (n, refl, f)))
+    (agentAt a i) (agentAt a j)) (λ h. h, λ h. h)
+    λ c s.
+    let l = s .2 in
+    let x = l .2 in
+    let f = x .5 in
+    subst F (f .1) (fails (s .0) (l .0) (f .0) record {
+      below = (s .1, l .1);
+      p = x .0;
+      q = x .1;
+      receiver = x .2;
+      sender = x .3;
+      lives = x .4;
+      fails = f .2;
+      lower = s .3;
+      beside = l .3;
+    })
 
--- ---- each check finds nothing exactly where its rule holds
-
-module _ (t : Table) (i j : ℕ) (p q : Agent) where
-  args-clear : arguments3 t i j p q ≡ clear → (n : ℕ) → n < length (p .args) → Rule3At t p q n
-  unfolding arguments3
-  args-clear e n h = within-Within t _ _ (test-clear _ _ (first-clear (length (p .args)) _ e n h))
-
-  clear-args : ((n : ℕ) → n < length (p .args) → Rule3At t p q n) → arguments3 t i j p q ≡ clear
-  unfolding arguments3
-  clear-args r = clear-first (length (p .args)) _ λ n h. clear-test _ _ (Within-within t _ _ (r n h))
-
-  args-hit : (b : Broken) → arguments3 t i j p q ≡ hit b → (n : ℕ) × (b ≡ at 3 (i ∷ j ∷ suc n ∷ [])) × Fails3 t n p q
-  unfolding arguments3
-  args-hit b e =
-      let s = first-hit (length (p .args)) _ b e in
-      let k = test-hit _ _ b (s .2) in
-      let o = lacking t (getD (q .args) (s .0) 0) (getD (p .args) (s .0) 0) (k .0) in (
-        s .0,
-        sym (k .1),
-        record {
-          below = s .1;
-          opening = o .0;
-          small = o .1;
-          sent = o .2;
-          lacks = o .3;
-          earlier = λ m h. within-Within t _ _ (test-clear _ _ (s .3 m h));
-        },
-      )
-
-  balances-clear : balances4 t i j p q ≡ clear → (k : ℕ) → k < t .balances → Rule4At t i j p q k
-  unfolding balances4
-  balances-clear e k h = leb-true _ _ (test-clear _ _ (first-clear (t .balances) _ e k h))
-
-  clear-balances : ((k : ℕ) → k < t .balances → Rule4At t i j p q k) → balances4 t i j p q ≡ clear
-  unfolding balances4
-  clear-balances r = clear-first (t .balances) _ λ k h. clear-test _ _ (le-leb _ _ (r k h))
-
-  balances-hit : (b : Broken) → balances4 t i j p q ≡ hit b → (k : ℕ) × (b ≡ at 4 (i ∷ j ∷ k ∷ [])) × Fails4 t i j k p q
-  unfolding balances4
-  balances-hit b e =
-      let s = first-hit (t .balances) _ b e in
-      let k = test-hit _ _ b (s .2) in
-      (s .0, sym (k .1), record { below = s .1; exceeds = leb-false _ _ (k .0); earlier = λ m h. leb-true _ _ (test-clear _ _ (s .3 m h)) })
+-- ---- the whole search
 
 module _ (a : Array) (t : Table) where
-  check1-rule : (check1 a t ≡ clear) ↔ Rule1 a t
-  unfolding check1
-  check1-rule = (
-    λ e o h n. implies _ _ (test-clear _ _ (first-clear (a .names) _ e o h)) n,
-    λ r. clear-first (a .names) _ λ o h. clear-test _ _ (implied _ _ (r o h)),
-  )
-
-  check2-rule : (check2 a t ≡ clear) ↔ Rule2 a t
-  unfolding check2
-  check2-rule = (
-    λ e k h. leb-true _ _ (test-clear _ _ (first-clear (t .balances) _ e k h)),
-    λ r. clear-first (t .balances) _ λ k h. clear-test _ _ (le-leb _ _ (r k h)),
-  )
-
-  check3-rule : (check3 a t ≡ clear) ↔ Rule3 a t
-  unfolding check3
-  check3-rule = (
-    λ e i j hi hj p q ep eq l. args-clear t i j p q (pairs-clear a t (arguments3 t) e i j hi hj p q ep eq l),
-    λ r. clear-pairs a t (arguments3 t) λ i j hi hj p q ep eq l. clear-args t i j p q (r i j hi hj p q ep eq l),
-  )
-
-  check4-rule : (check4 a t ≡ clear) ↔ Rule4 a t
-  unfolding check4
-  check4-rule = (
-    λ e i j hi hj p q ep eq l. balances-clear t i j p q (pairs-clear a t (balances4 t) e i j hi hj p q ep eq l),
-    λ r. clear-pairs a t (balances4 t) λ i j hi hj p q ep eq l. clear-balances t i j p q (r i j hi hj p q ep eq l),
-  )
-
-  check5-rule : (check5 a t ≡ clear) ↔ Rule5 a t
-  unfolding check5
-  check5-rule = (
-    λ e c h. ltb-true _ _ (test-clear _ _ (first-clear (t .claims) _ e c h)),
-    λ r. clear-first (t .claims) _ λ c h. clear-test _ _ (lt-ltb _ _ (r c h)),
-  )
-
-  -- ---- held exactly where the five rules hold
+  -- the rules before a rule hold, so what its search finds is the first broken
+  verdict-finds : Finds (verdict a t) (Rules a t) (FirstBroken a t)
+  unfolding verdict check1 check2 check3 arguments3 check4 balances4 check5
+  verdict-finds =
+      finds-as
+      (andThen-finds (tests-find (a .names) (λ o. at 1 (o ∷ [])) (decides1 a t) broken1) λ r₁.
+      andThen-finds (tests-find (t .balances) (λ k. at 2 (k ∷ [])) (decides2 a t) (broken2 r₁)) λ r₂.
+      andThen-finds (pairs-find a t arity (λ i j n. at 3 (i ∷ j ∷ suc n ∷ [])) (λ i j. decides3 t) (broken3 r₁ r₂)) λ r₃.
+      andThen-finds (pairs-find a t (λ p. t .balances) (λ i j k. at 4 (i ∷ j ∷ k ∷ [])) (decides4 t) (broken4 r₁ r₂ r₃)) λ r₄.
+      tests-find (t .claims) (λ c. at 5 (c ∷ [])) (decides5 t) (broken5 r₁ r₂ r₃ r₄)) (
+        λ r. record { rule1 = r .0; rule2 = r .1 .0; rule3 = r .1 .1 .0; rule4 = r .1 .1 .1 .0; rule5 = r .1 .1 .1 .1 },
+        λ r. (r .rule1, (r .rule2, (r .rule3, (r .rule4, r .rule5)))),
+      )
+      λ b f. f
 
   pub held-rules : (verdict a t ≡ held) ↔ Rules a t
-  unfolding verdict
-  held-rules = (
-    λ e.
-        let s₁ = andThen-split _ _ e in
-        let s₂ = andThen-split _ _ (s₁ .1) in
-        let s₃ = andThen-split _ _ (s₂ .1) in
-        let s₄ = andThen-split _ _ (s₃ .1) in
-        record {
-          rule1 = check1-rule .0 (s₁ .0);
-          rule2 = check2-rule .0 (s₂ .0);
-          rule3 = check3-rule .0 (s₃ .0);
-          rule4 = check4-rule .0 (s₄ .0);
-          rule5 = check5-rule .0 (s₄ .1);
-        },
-    λ r.
-        andThen-join _ _ (check1-rule .1 (r .rule1))
-        (andThen-join _ _ (check2-rule .1 (r .rule2))
-        (andThen-join _ _ (check3-rule .1 (r .rule3))
-        (andThen-join _ _ (check4-rule .1 (r .rule4)) (check5-rule .1 (r .rule5))))),
-  )
-
-  -- ---- a broken verdict names the first broken rule and its first place
-
-  hit1 : (b : Broken) → check1 a t ≡ hit b → FirstBroken a t b
-  unfolding check1
-  hit1 b e =
-      let s = first-hit (a .names) _ b e in
-      let k = test-hit _ _ b (s .2) in
-      let o = or-false (not (isNew a (s .0))) (t .row (s .0) (s .0)) (k .0) in
-      subst (FirstBroken a t) (k .1)
-      (broken1 (s .0) (s .1) (not-false _ (o .0)) (o .1) (λ m h n. implies _ _ (test-clear _ _ (s .3 m h)) n))
-
-  hit2 : Rule1 a t → (b : Broken) → check2 a t ≡ hit b → FirstBroken a t b
-  unfolding check2
-  hit2 r₁ b e =
-      let s = first-hit (t .balances) _ b e in
-      let k = test-hit _ _ b (s .2) in
-      subst (FirstBroken a t) (k .1) (broken2 r₁ (s .0) (s .1) (leb-false _ _ (k .0)) (λ m h. leb-true _ _ (test-clear _ _ (s .3 m h))))
-
-  hit3 : Rule1 a t → Rule2 a t → (b : Broken) → check3 a t ≡ hit b → FirstBroken a t b
-  unfolding check3
-  hit3 r₁ r₂ b e =
-      let s = pairs-hit a t (arguments3 t) b e in
-      let n = args-hit t (s .0) (s .1) (s .2 .p) (s .2 .q) b (s .2 .fails) in
-      subst (FirstBroken a t) (sym (n .1))
-      (broken3 r₁ r₂ (s .0) (s .1) (n .0) (restate (s .2) (n .2) (λ k l p q. args-clear t k l p q)))
-
-  hit4 : Rule1 a t → Rule2 a t → Rule3 a t → (b : Broken) → check4 a t ≡ hit b → FirstBroken a t b
-  unfolding check4
-  hit4 r₁ r₂ r₃ b e =
-      let s = pairs-hit a t (balances4 t) b e in
-      let n = balances-hit t (s .0) (s .1) (s .2 .p) (s .2 .q) b (s .2 .fails) in
-      subst (FirstBroken a t) (sym (n .1))
-      (broken4 r₁ r₂ r₃ (s .0) (s .1) (n .0) (restate (s .2) (n .2) (λ k l p q. balances-clear t k l p q)))
-
-  hit5 : Rule1 a t → Rule2 a t → Rule3 a t → Rule4 a t → (b : Broken) → check5 a t ≡ hit b → FirstBroken a t b
-  unfolding check5
-  hit5 r₁ r₂ r₃ r₄ b e =
-      let s = first-hit (t .claims) _ b e in
-      let k = test-hit _ _ b (s .2) in
-      subst (FirstBroken a t) (k .1)
-      (broken5 r₁ r₂ r₃ r₄ (s .0) (s .1) (ltb-false _ _ (k .0)) (λ m h. ltb-true _ _ (test-clear _ _ (s .3 m h))))
+  held-rules = verdict-finds .nothing
 
   pub first-broken : (b : Broken) → verdict a t ≡ hit b → FirstBroken a t b
-  unfolding verdict
-  first-broken b e =
-      next (hit1 b) (λ c₁.
-      let r₁ = check1-rule .0 c₁ in
-      next (hit2 r₁ b) (λ c₂.
-      let r₂ = check2-rule .0 c₂ in
-      next (hit3 r₁ r₂ b) (λ c₃.
-      let r₃ = check3-rule .0 c₃ in
-      next (hit4 r₁ r₂ r₃ b) (λ c₄. hit5 r₁ r₂ r₃ (check4-rule .0 c₄) b)))) e
-    where
-      -- the first of two searches found it, or the rest did
-      next : {f g : Verdict} → (f ≡ hit b → FirstBroken a t b) → (f ≡ clear → g ≡ hit b → FirstBroken a t b) → andThen f g ≡ hit b → FirstBroken a t b
-      next {f} {g} here later h =
-          ⊎-elim (λ (k : f ≡ hit b). here k) (λ (k : (f ≡ clear) × (g ≡ hit b)). later (k .0) (k .1)) (andThen-hit f g b h)
+  first-broken = verdict-finds .found
+
+-- ---- what a rule that is false at a place says of it
+
+pub lacks1 : (a : Array) (t : Table) (o : ℕ) → (Rule1At a t o → ⊥) → (isNew a o ≡ true) × (t .row o o ≡ false)
+lacks1 a t o n = let k = or-false (not (isNew a o)) (t .row o o) (refutes (decides1 a t o) n) in (not-false _ (k .0), k .1)
+
+pub exceeds2 : (a : Array) (t : Table) (k : ℕ) → (Rule2At a t k → ⊥) → (t .balance k) .bound < rootLoad a t k
+exceeds2 a t k n = lt-of-not-le n
+
+-- an opening that is in the sent name's row and not in the parameter's
+pub lacks3 : (t : Table) (p q : Agent) (n : ℕ) → (Rule3At t p q n → ⊥)
+    → (o : ℕ) × (o < rowBits) × (t .row (getD (q .args) n 0) o ≡ true) × (t .row (getD (p .args) n 0) o ≡ false)
+unfolding within
+lacks3 t p q n f =
+    let s = every-false rowBits _ (refutes (decides3 t p q n) f) in
+    let k = or-false (not (t .row (getD (q .args) n 0) (s .0))) (t .row (getD (p .args) n 0) (s .0)) (s .2) in
+    (s .0, s .1, not-false _ (k .0), k .1)
+
+pub exceeds4 : (t : Table) (i j : ℕ) (p q : Agent) (k : ℕ) → (Rule4At t i j p q k → ⊥) → weightGone (t .balance k) i j p < loadLeft (t .balance k) p q
+exceeds4 t i j p q k n = lt-of-not-le n
+
+pub reached5 : (t : Table) (c : ℕ) → (Rule5At t c → ⊥) → claimWeight t c ≤ balanceOf t c .bound
+reached5 t c n = le-of-suc-le-suc (lt-of-not-le n)

@@ -1,178 +1,196 @@
--- An attempt on words is the attempt on the cells and marker numbers that the words stand for, and so, with the entries, an attempt of
--- the calculus.
-use Prim.Native.Nat.{ℕ, _-_, _≤_, _<_, zero-le}
+-- The bridge from lent memory to the calculus: a word stands for an opening under a marker tree, and an attempt on words, decoded, is the
+-- attempt of the calculus on what the words stand for. The entries grow by at most the marker made, and keep what numbers stand for.
+use Prim.Native.Nat.{ℕ, _+_, _≤_, _<_, zero-le}
+use native.Mathlib.Nat.{le-refl, le-trans}
 use native.Mathlib.Omega.{arith}
 use mathlib.Core.Path.{_≡_, refl, sym, ap, ap₂, _∙_}
-use mathlib.Core.Logic.{_⊎_, inl, inr, _≢_}
-use mathlib.Core.Bool.{true, false, cond, not, _&&_}
-use mathlib.Core.List.{List, [], _∷_, map}
+use mathlib.Core.Logic.{_⊎_, inl, inr}
+use mathlib.Core.Bool.{Bool, true, false, cond, not, _&&_}
+use mathlib.Core.List.{List, [], _∷_, _++_, map}
 use mathlib.Core.Option.{Option, none, some}
-use lib.Dec.{eqb}
-use lib.ListN.{length, getD, List·getD-map}
+use lib.Dec.{eqb, ltb}
+use lib.ListN.{length, getD, length-append}
 use borrow.Author.Tests.{eqb-true, eqb-false, eq-eqb, ne-eqb}
 use Rattle.laws.specs.Lists.{All}
 use Rattle.laws.proofs.Search.{decided, and-split, and-join, same-test}
-use Rattle.laws.proofs.Lists.{All-at, All-map, All-maps}
+use Rattle.laws.proofs.Lists.{All-at, All-map}
 use Rattle.model.specs.Tree.{Array, Sort, out, inp, resource, Agent, agentAt}
-use Rattle.model.specs.Calculus.{Marker, Cell, unheld, holds, sameCell, calculus, Choices, Thread, Config, Attempt, Answer, refused, next, noThread, markerOf, attempt, start}
-use Rattle.model.specs.Numbers.{Entry, decode, Listed, numbers, listAfter, nobody, markersAfter, mapThread, mapAnswer, mapCell, decodeThread, ThreadFits, decodeLent, startLent}
-use Rattle.model.specs.Memory.{opening, newIn, markerIn, words, cellOf, decodeWord}
-use Rattle.model.proofs.Markers.{position-le}
-use Rattle.model.proofs.Natural.{Agrees, attempt-map, start-map}
-use Rattle.model.proofs.Decoded.{attempt-decoded, start-decoded}
+use Rattle.model.specs.Calculus.{Marker, Cell, unheld, holds, sameMarker, sameCell, calculus, Choices, Thread, Config, Attempt}
+use Rattle.model.specs.Calculus.{noThread, markerOf, attempt, start}
+use Rattle.model.specs.Numbers.{Entry, decodeTo, decode, Listed, position, extend, listAfter, markersAfter, mapThread}
+use Rattle.model.specs.Memory.{opening, newIn, markerIn, words, decodeWord}
+use Rattle.model.proofs.Markers.{same-eq, same-refl, decode-injective, extend-listed, extend-decode, extend-new, extend-place}
+use Rattle.model.proofs.Natural.{mapAnswer, GoodThread, Agrees, attempt-map, start-map}
 
--- ---- words and cells
+-- a thread of words, decoded
+abbrev pub decoded : List Entry → Thread ℕ ℕ → Thread Marker Cell
+decoded es t = mapThread (decode es) (decodeWord es) t
 
--- a word and its parts
-apart : (x y : ℕ) → x ≢ 0 → y ≢ 0 → eqb x y ≡ (eqb (newIn x) (newIn y) && eqb (markerIn x) (markerIn y))
-apart x y hx hy =
-    same-test (eqb x y) (eqb (newIn x) (newIn y) && eqb (markerIn x) (markerIn y))
-    (λ e. let z = eqb-true x y e in and-join (eq-eqb _ _ (ap newIn z)) (eq-eqb _ _ (ap markerIn z)))
-    (λ e.
-    let s = and-split (eqb (newIn x) (newIn y)) (eqb (markerIn x) (markerIn y)) e in
-    let n : newIn x ≡ newIn y = eqb-true (newIn x) (newIn y) (s .0) in
-    let m : markerIn x ≡ markerIn y = eqb-true (markerIn x) (markerIn y) (s .1) in
-    eq-eqb x y (omega arith))
+-- "marker numbers are at most the marker count", n: a thread's own and those in its words
+abbrev pub Fits : ℕ → Thread ℕ ℕ → Type 0
+Fits n = GoodThread (λ m. m ≤ n) (λ x. markerIn x ≤ n)
 
-word-same : (x y : ℕ) → (not (eqb x 0) && eqb x y) ≡ sameCell eqb (cellOf x) (cellOf y)
-unfolding cellOf sameCell
-word-same x y = go (decided (eqb x 0)) (decided (eqb y 0))
+-- ---- words
+
+-- words compare as what they stand for
+word-same : (ds : List Entry) → Listed ds → (x y : ℕ) → markerIn x ≤ length ds → markerIn y ≤ length ds
+    → (not (eqb x 0) && eqb x y) ≡ sameCell (decodeWord ds x) (decodeWord ds y)
+unfolding decodeWord sameCell
+word-same ds ok x y hx hy = go (decided (eqb x 0)) (decided (eqb y 0))
   where
+    M : ℕ → Marker
+    M z = decode ds (markerIn z)
+
     go : (eqb x 0 ≡ true) ⊎ (eqb x 0 ≡ false) → (eqb y 0 ≡ true) ⊎ (eqb y 0 ≡ false)
-        → (not (eqb x 0) && eqb x y) ≡ sameCell eqb (cond (eqb x 0) unheld (holds (newIn x) (markerIn x))) (cond (eqb y 0) unheld (holds (newIn y) (markerIn y)))
+        → (not (eqb x 0) && eqb x y) ≡ sameCell (cond (eqb x 0) unheld (holds (newIn x) (M x))) (cond (eqb y 0) unheld (holds (newIn y) (M y)))
     go (inl p) q = rw p
     go (inr p) (inl q) = let z = eqb-true y 0 q in rw (p, q, z) p
-    go (inr p) (inr q) = rw (p, q) (apart x y (eqb-false x 0 p) (eqb-false y 0 q))
+    go (inr p) (inr q) =
+        rw (p, q)
+        (same-test (eqb x y) (eqb (newIn x) (newIn y) && sameMarker (M x) (M y))
+        (λ e. let z = eqb-true x y e in rw z (and-join (eq-eqb (newIn y) (newIn y) refl) (same-refl (M y))))
+        (λ e.
+        let s = and-split (eqb (newIn x) (newIn y)) (sameMarker (M x) (M y)) e in
+        let n : newIn x ≡ newIn y = eqb-true _ _ (s .0) in
+        let m : markerIn x ≡ markerIn y = decode-injective ds ok (markerIn x) (markerIn y) hx hy (same-eq (M x) (M y) (s .1)) in
+        let a = eqb-false x 0 p in
+        let b = eqb-false y 0 q in
+        eq-eqb x y (omega arith)))
 
 -- an opening's word stands for the opening
-cell-opening : (n m : ℕ) → m < 65536 → cellOf (opening n m) ≡ holds n m
-unfolding cellOf
-cell-opening n m h =
+opening-stands : (ds : List Entry) (n m : ℕ) → m < 65536 → decodeWord ds (opening n m) ≡ holds n (decode ds m)
+unfolding decodeWord
+opening-stands ds n m h =
     let z : eqb (opening n m) 0 ≡ false = ne-eqb (opening n m) 0 (λ e. absurd (omega arith)) in
     let q : newIn (opening n m) ≡ n = omega arith in
     let r : markerIn (opening n m) ≡ m = omega arith in
     rw (z, q, r)
 
--- threads of words as threads of cells
-abbrev pub cells : Thread ℕ ℕ → Thread ℕ (Cell ℕ)
-cells t = mapThread (λ m. m) cellOf t
+agrees : (es ds : List Entry) → Listed ds → length ds < 65536
+    → Agrees (decode ds) (decodeWord ds) (words es) calculus (λ m. m ≤ length ds) (λ x. markerIn x ≤ length ds)
+unfolding words calculus decode decodeTo decodeWord
+agrees es ds ok few = record {
+  empty = refl;
+  unheld = refl;
+  holds = λ n m h. opening-stands ds n m (omega arith);
+  same = word-same ds ok;
+  fine = zero-le;
+  bare = zero-le;
+  opens = λ n m h. let r : markerIn (opening n m) ≡ m = omega arith in rw r h;
+}
 
--- ---- an attempt
+pub none-listed : Listed []
+none-listed = record { ordered = λ k h. absurd (omega arith); distinct = λ k l h i e. absurd (omega arith) }
 
-unheld-is : (es : List Entry) → cellOf (words es .unheld) ≡ numbers es .unheld
-unfolding words numbers cellOf
-unheld-is es = refl
+pub start-words : (a : Array) (ch : Choices) → map (decoded []) (start (words []) a ch) ≡ start calculus a ch
+start-words = start-map (decode []) (decodeWord []) (words []) calculus _ _ (agrees [] [] none-listed (omega arith))
 
-empty-is : (es : List Entry) → words es .empty ≡ numbers es .empty
-unfolding words numbers
-empty-is es = refl
+-- ---- entries that keep what the numbers of others stand for
 
-module _ (a : Array) (es : List Entry) (few : length es ≤ 4096) (c : Config ℕ ℕ) (fits : All (λ t. t .marker ≤ length es) c) (u : Attempt) where
+pub record Kept (es ds : List Entry) : Type 0 where
+  pub listed : Listed ds
+  pub longer : length es ≤ length ds
+  pub most : length ds ≤ length es + 1
+  pub stands : (n : ℕ) → n ≤ length es → decode ds n ≡ decode es n
+
+kept-same : (es : List Entry) → Listed es → Kept es es
+kept-same es ok = record { listed = ok; longer = le-refl (length es); most = omega arith; stands = λ n h. refl }
+
+-- what fits the shorter list is read alike by the longer
+map-on : {A B : Type 0} {P : A → Type 0} (f g : A → B) → ((x : A) → P x → f x ≡ g x) → (xs : List A) → All P xs → map f xs ≡ map g xs
+map-on f g h [] k = refl
+map-on f g h (x ∷ xs) k = ap₂ (λ (y : _) (z : List _). y ∷ z) (h x (k .0)) (map-on f g h xs (k .1))
+
+module _ (es ds : List Entry) (k : Kept es ds) where
+  kept-word : (x : ℕ) → markerIn x ≤ length es → decodeWord ds x ≡ decodeWord es x
+  unfolding decodeWord
+  kept-word x h = rw (k .stands (markerIn x) h)
+
+  kept-thread : (t : Thread ℕ ℕ) → Fits (length es) t → decoded ds t ≡ decoded es t
+  kept-thread t h =
+      let m = k .stands (t .marker) (h .0) in
+      let e = map-on (decodeWord ds) (decodeWord es) kept-word (t .env) (h .1) in
+      λ i. record { agent = t .agent; marker = m i; env = e i }
+
+  fits-more : (t : Thread ℕ ℕ) → Fits (length es) t → Fits (length ds) t
+  fits-more t h = (le-trans (h .0) (k .longer), All-map (λ x l. le-trans l (k .longer)) (t .env) (h .1))
+
+-- ---- one attempt
+
+module _ (es : List Entry) (ok : Listed es) (r t : Thread ℕ ℕ) (hr : r .marker ≤ length es) (ht : t .marker ≤ length es) where
+  abbrev entry : Entry
+  entry = record { resource = r .agent; out = t .agent; left = r .marker; right = t .marker }
+
+  kept-after : (s : Sort) → Kept es (listAfter es s r t)
+  unfolding listAfter extend
+  kept-after out = kept-same es ok
+  kept-after inp = kept-same es ok
+  kept-after resource = record {
+    listed = extend-listed es ok entry hr ht;
+    longer = grown (ltb (position entry es) (length es)) .0;
+    most = grown (ltb (position entry es) (length es)) .1;
+    stands = extend-decode es ok entry hr ht;
+  }
+    where
+      grown : (b : Bool) → (length es ≤ length (cond b es (es ++ (entry ∷ [])))) × (length (cond b es (es ++ (entry ∷ []))) ≤ length es + 1)
+      grown true = (le-refl (length es), omega arith)
+      grown false = rw (length-append es (entry ∷ [])) (omega arith, omega arith)
+
+  -- the number of the receiver's marker stands for the marker of the calculus
+  pub made-stands : (s : Sort) → decode (listAfter es s r t) (markerOf (words es) s r t) ≡ markerOf calculus s (decoded es r) (decoded es t)
+  unfolding listAfter markerOf words calculus
+  made-stands out = refl
+  made-stands inp = refl
+  made-stands resource = extend-new es ok entry hr ht
+
+  made-fits : (s : Sort) → markerOf (words es) s r t ≤ length (listAfter es s r t)
+  unfolding listAfter markerOf words
+  made-fits out = hr
+  made-fits inp = hr
+  made-fits resource = extend-place es ok entry hr ht .0
+
+module _ (a : Array) (es : List Entry) (ok : Listed es) (c : Config ℕ ℕ) (fits : All (Fits (length es)) c) (u : Attempt) where
   abbrev R : Thread ℕ ℕ
   R = getD c (u .receiver) (noThread (words es))
 
   abbrev S : Thread ℕ ℕ
   S = getD c (u .sender) (noThread (words es))
 
-  marker-fits : (i : ℕ) → getD c i (noThread (words es)) .marker ≤ length es
+  abbrev ds : List Entry
+  ds = markersAfter a es c u
+
+  fit : (i : ℕ) → Fits (length es) (getD c i (noThread (words es)))
   unfolding words
-  marker-fits i = All-at (λ t. t .marker ≤ length es) c i (noThread (words es)) zero-le fits
+  fit i = All-at (Fits (length es)) c i (noThread (words es)) (zero-le, tt) fits
 
-  made-small : (s : Sort) → markerOf (words es) s R S < 65536
-  unfolding markerOf words
-  made-small out = let h = marker-fits (u .receiver) in omega arith
-  made-small inp = let h = marker-fits (u .receiver) in omega arith
-  made-small resource = let h = position-le record { resource = R .agent; out = S .agent; left = R .marker; right = S .marker } es in omega arith
+  -- the entries after the attempt, by the receiver's agent
+  pub after-is : (p : Agent) → agentAt a (R .agent) ≡ some p → ds ≡ listAfter es (p .sort) R S
+  unfolding markersAfter words
+  after-is p e = ap (λ x. elim x [ none ↦ es | some p ↦ listAfter es (p .sort) R S ]) e
 
-  pub made-same : (s : Sort) → markerOf (words es) s R S ≡ markerOf (numbers es) s (cells R) (cells S)
-  unfolding markerOf words numbers
-  made-same out = refl
-  made-same inp = refl
-  made-same resource = refl
+  pub after-kept : Kept es ds
+  unfolding markersAfter words
+  after-kept = go (agentAt a (R .agent))
+    where
+      go : (x : Option Agent) → Kept es (elim x [ none ↦ es | some p ↦ listAfter es (p .sort) R S ])
+      go none = kept-same es ok
+      go (some p) = kept-after es ok R S (fit (u .receiver) .0) (fit (u .sender) .0) (p .sort)
 
-  agrees : Agrees (λ m. m) cellOf (words es) (numbers es) (unheld-is es) (empty-is es) a c u
-  unfolding words numbers
-  agrees = record {
-    channels = λ x y. word-same _ _;
-    made = λ p e. made-same (p .sort);
-    opens = λ p e n. cell-opening n _ (made-small (p .sort));
-    keeps = λ n. let h = marker-fits (u .sender) in cell-opening n _ (omega arith);
-  }
+  module _ (p : Agent) (e : agentAt a (R .agent) ≡ some p) where
+    pub marker-fits : markerOf (words es) (p .sort) R S ≤ length ds
+    marker-fits = rw (after-is p e) (made-fits es ok R S (fit (u .receiver) .0) (fit (u .sender) .0) (p .sort))
 
-  attempt-cells : mapAnswer (λ m. m) cellOf (attempt (words es) a c u) ≡ attempt (numbers es) a (map cells c) u
-  attempt-cells = attempt-map (λ m. m) cellOf (words es) (numbers es) (unheld-is es) (empty-is es) a c u agrees
+    pub marker-stands : decode ds (markerOf (words es) (p .sort) R S) ≡ markerOf calculus (p .sort) (decoded es R) (decoded es S)
+    marker-stands = rw (after-is p e) (made-stands es ok R S (fit (u .receiver) .0) (fit (u .sender) .0) (p .sort))
 
--- ---- composed maps
-
-map-map : {A B C : Type 0} (g : B → C) (h : A → B) (xs : List A) → map g (map h xs) ≡ map (λ x. g (h x)) xs
-map-map g h [] = refl
-map-map g h (x ∷ xs) = ap (λ (z : List _). g (h x) ∷ z) (map-map g h xs)
-
-map-same : {A B : Type 0} (f g : A → B) → ((x : A) → f x ≡ g x) → (xs : List A) → map f xs ≡ map g xs
-map-same f g h [] = refl
-map-same f g h (x ∷ xs) = ap₂ (λ (y : _) (z : List _). y ∷ z) (h x) (map-same f g h xs)
-
--- a thread of words, decoded
-abbrev pub decoded : List Entry → Thread ℕ ℕ → Thread Marker (Cell Marker)
-decoded es t = mapThread (decode es) (decodeWord es) t
-
-decode-cells : (es : List Entry) (t : Thread ℕ ℕ) → decodeThread es (cells t) ≡ decoded es t
-unfolding decodeWord
-decode-cells es t = let e = map-map (mapCell (decode es)) cellOf (t .env) in λ i. record { agent = t .agent; marker = decode es (t .marker); env = e i }
-
-pub decode-config : (es : List Entry) (c : Config ℕ ℕ) → map (decodeThread es) (map cells c) ≡ map (decoded es) c
-decode-config es c = map-map (decodeThread es) cells c ∙ map-same (λ t. decodeThread es (cells t)) (decoded es) (decode-cells es) c
-
-decode-answer : (es : List Entry) (x : Answer ℕ ℕ) → mapAnswer (decode es) (mapCell (decode es)) (mapAnswer (λ m. m) cellOf x) ≡ mapAnswer (decode es) (decodeWord es) x
-unfolding mapAnswer
-decode-answer es (refused n) = refl
-decode-answer es (next c) = ap next (decode-config es c)
-
--- entries after an attempt do not depend on how cells are written
-pub list-cells : (es : List Entry) (s : Sort) (r t : Thread ℕ ℕ) → listAfter es s (cells r) (cells t) ≡ listAfter es s r t
-unfolding listAfter
-list-cells es out r t = refl
-list-cells es inp r t = refl
-list-cells es resource r t = refl
-
-pub markers-cells : (a : Array) (es : List Entry) (c : Config ℕ ℕ) (u : Attempt) → markersAfter a es (map cells c) u ≡ markersAfter a es c u
-unfolding markersAfter
-markers-cells a es c u =
-    ap₂ (λ (r s : Thread ℕ (Cell ℕ)). elim (agentAt a (r .agent)) as (λ x. List Entry) [ none ↦ es | some p ↦ listAfter es (p .sort) r s ])
-    (List·getD-map cells c (u .receiver) nobody) (List·getD-map cells c (u .sender) nobody)
-    ∙ go (agentAt a (R .agent))
-  where
-    R : Thread ℕ ℕ
-    R = getD c (u .receiver) nobody
-
-    S : Thread ℕ ℕ
-    S = getD c (u .sender) nobody
-
-    go : (x : Option Agent)
-        → _≡_ {A = List Entry} (elim x [ none ↦ es | some p ↦ listAfter es (p .sort) (cells R) (cells S) ])
-        (elim x [ none ↦ es | some p ↦ listAfter es (p .sort) R S ])
-    go none = refl
-    go (some p) = list-cells es (p .sort) R S
-
--- an attempt on words, decoded, is the attempt of the calculus on what the words stand for
-pub attempt-words : (a : Array) (es : List Entry) → length es ≤ 4096 → Listed es → (c : Config ℕ ℕ) → All (λ t. ThreadFits (length es) (cells t)) c → (u : Attempt)
-    → mapAnswer (decode (markersAfter a es c u)) (decodeWord (markersAfter a es c u)) (attempt (words es) a c u) ≡ attempt calculus a (map (decoded es) c) u
-attempt-words a es few ok c fits u =
-    let ds = markersAfter a es c u in
-    sym (decode-answer ds (attempt (words es) a c u))
-    ∙ ap (mapAnswer (decode ds) (mapCell (decode ds))) (attempt-cells a es few c (All-map (λ t h. h .0) c fits) u)
-    ∙ ap (λ d. mapAnswer (decode d) (mapCell (decode d)) (attempt (numbers es) a (map cells c) u)) (sym (markers-cells a es c u))
-    ∙ attempt-decoded a es ok (map cells c) (All-maps (ThreadFits (length es)) cells c fits) u
-    ∙ ap (λ d. attempt calculus a d u) (decode-config es c)
-
-zero-opens : (n : ℕ) → cellOf (words [] .holds n (words [] .empty)) ≡ numbers [] .holds n (words [] .empty)
-unfolding words numbers
-zero-opens n = cell-opening n 0 (omega arith)
-
-pub start-words : (a : Array) (ch : Choices) → map (decoded []) (start (words []) a ch) ≡ start calculus a ch
-unfolding startLent decodeLent
-start-words a ch =
-    sym (decode-config [] (start (words []) a ch))
-    ∙ ap (map (decodeThread []))
-    (start-map (λ m. m) cellOf (words []) (numbers []) (unheld-is []) (empty-is []) zero-opens a ch)
-    ∙ start-decoded a ch
+  -- an attempt on words, decoded, is the attempt of the calculus on what the words stand for
+  pub attempt-words : length es ≤ 4096 → mapAnswer (decode ds) (decodeWord ds) (attempt (words es) a c u) ≡ attempt calculus a (map (decoded es) c) u
+  attempt-words few =
+      let k = after-kept in
+      attempt-map (decode ds) (decodeWord ds) (words es) calculus _ _ (agrees es ds (k .listed) (omega arith)) a c (All-map (fits-more es ds k) c fits) u
+      (λ p e. (
+        marker-fits p e,
+        marker-stands p e
+            ∙ sym (ap₂ (markerOf calculus (p .sort)) (kept-thread es ds k R (fit (u .receiver))) (kept-thread es ds k S (fit (u .sender)))),
+      ))
+      ∙ ap (λ d. attempt calculus a d u) (map-on (decoded ds) (decoded es) (kept-thread es ds k) c fits)

@@ -1,5 +1,5 @@
 -- The calculus: configurations and steps, over any way to write markers and cells (01, "Configurations and steps").
-use Prim.Native.Nat.{ℕ, zero, suc, _/_, _%_}
+use Prim.Native.Nat.{ℕ, suc, _/_, _%_}
 use mathlib.Core.Bool.{Bool, true, false, cond, not, _&&_, _||_}
 use mathlib.Core.List.{List, [], _∷_, _++_, map}
 use mathlib.Core.Option.{Option, none, some}
@@ -16,9 +16,9 @@ pub data Marker : Type 0 where
   node : ℕ → ℕ → Marker → Marker → Marker
 
 -- a name's cell in a thread: nothing, or an opening, "the new that opened it and its marker"
-pub data Cell (X : Type 0) : Type 0 where
-  unheld : Cell X
-  holds : ℕ → X → Cell X
+pub data Cell : Type 0 where
+  unheld : Cell
+  holds : ℕ → Marker → Cell
 
 -- How markers (X) and cells (C) are written. The calculus writes them as they are; lent memory writes numbers.
 pub record Notation (X C : Type 0) : Type 0 where
@@ -34,14 +34,14 @@ sameMarker empty (node r o m n) = false
 sameMarker (node r o m n) empty = false
 sameMarker (node r o m n) (node s p k l) = eqb r s && eqb o p && sameMarker m k && sameMarker n l
 
--- equal openings, by a test of equal markers
-unfoldable pub sameCell : {X : Type 0} → (X → X → Bool) → Cell X → Cell X → Bool
-sameCell f unheld d = false
-sameCell f (holds n m) unheld = false
-sameCell f (holds n m) (holds o k) = eqb n o && f m k
+-- equal openings
+unfoldable pub sameCell : Cell → Cell → Bool
+sameCell unheld d = false
+sameCell (holds n m) unheld = false
+sameCell (holds n m) (holds o k) = eqb n o && sameMarker m k
 
-unfoldable pub calculus : Notation Marker (Cell Marker)
-calculus = record { empty = Marker.empty; node = Marker.node; unheld = Cell.unheld; holds = Cell.holds; same = sameCell sameMarker }
+unfoldable pub calculus : Notation Marker Cell
+calculus = record { empty = Marker.empty; node = Marker.node; unheld = Cell.unheld; holds = Cell.holds; same = sameCell }
 
 -- ---- choices
 

@@ -8,10 +8,9 @@ use Rattle.laws.specs.Search.{hit}
 use Rattle.laws.specs.Lists.{has}
 use Rattle.model.specs.Tree.{Array, Node, out, inp, resource}
 use Rattle.model.specs.Calculus.{Marker, Cell, Thread, Config, Attempt, Answer, refused, calculus, attempt, run}
-use Rattle.model.specs.Numbers.{Entry, Lent, startLent, attemptsLent}
 use Rattle.model.specs.declared.Ending.{Ending}
 use Rattle.model.specs.declared.Ending.the-variants.{Quiet, Spent, Full}
-use Rattle.model.specs.Memory.{Memory, Result, stops, leaves, startIn, formed, Walked, walkIn}
+use Rattle.model.specs.Memory.{Memory, Result, stops, leaves, startIn, stepIn, formed, Walked, walkIn}
 use Rattle.model.specs.Memory.{standsFor, Starts, Follows, Walks, Ends, Next, moved, Tells}
 use Rattle.model.specs.Memory as M
 use Rattle.model.specs.Rules.{Table, Claim, Broken, Verdict, held, at, verdict, check5, FirstBroken}
@@ -84,6 +83,23 @@ D =
 abbrev pub G : Array
 G = arrayOf 1 (Node.new 0 1 ∷ Node.par 2 3 ∷ Node.agent out 0 [] 4 ∷ Node.agent resource 0 [] 5 ∷ Node.stop ∷ Node.stop ∷ [])
 
+-- Two resources that each leave a sender, for one sender.
+abbrev pub H : Array
+H =
+    arrayOf 1
+    (Node.new 0 1
+    ∷ Node.par 2 3
+    ∷ Node.par 4 5
+    ∷ Node.agent out 0 [] 6
+    ∷ Node.agent resource 0 [] 7
+    ∷ Node.agent resource 0 [] 8
+    ∷ Node.stop
+    ∷ Node.agent out 0 [] 9
+    ∷ Node.agent out 0 [] 10
+    ∷ Node.stop
+    ∷ Node.stop
+    ∷ [])
+
 -- a table of its rows, one balance (bound, weights by node) and claims on it (agent, most)
 unfoldable pub table : List (List ℕ) → ℕ → List ℕ → List Claim → Table
 table rows b ws cs = record {
@@ -114,9 +130,6 @@ row0 b ws = table ((0 ∷ []) ∷ []) b ws []
 -- a step of two positions, every choice to the left
 abbrev pub pair : ℕ → ℕ → Attempt
 pair r s = record { receiver = r; sender = s; choices = λ i. false }
-
-abbrev pub entry : ℕ → ℕ → ℕ → ℕ → Entry
-entry r o m n = record { resource = r; out = o; left = m; right = n }
 
 -- lent lists for B, of three words a thread and four numbers a marker, with 7 and 9 where nothing was written
 abbrev pub lists : List ℕ → ℕ → List ℕ → ℕ → Memory
@@ -159,13 +172,13 @@ abbrev pub ended : Ending → ℕ → Memory → Walked
 ended x n m = record { ending = x; steps = n; left = m }
 
 -- threads of A: its sender, and two of agent 6, the last with a given cell of its free name 2
-abbrev pub thread : ℕ → List (Cell Marker) → Thread Marker (Cell Marker)
+abbrev pub thread : ℕ → List Cell → Thread Marker Cell
 thread i cells = record { agent = i; marker = Marker.empty; env = cells }
 
-abbrev pub opened : ℕ → Cell Marker
+abbrev pub opened : ℕ → Cell
 opened o = Cell.holds o Marker.empty
 
-abbrev pub threeOfA : Cell Marker → Config Marker (Cell Marker)
+abbrev pub threeOfA : Cell → Config Marker Cell
 threeOfA last =
     thread 3 (opened 0 ∷ opened 1 ∷ Cell.unheld ∷ [])
     ∷ thread 6 (Cell.unheld ∷ Cell.unheld ∷ opened 1 ∷ [])
@@ -181,6 +194,10 @@ limits row2 bound most =
 abbrev pub tableD : ℕ → ℕ → ℕ → Table
 tableD bound w5 w10 = table ((0 ∷ []) ∷ (1 ∷ []) ∷ []) bound (0 ∷ 0 ∷ 0 ∷ 0 ∷ 0 ∷ w5 ∷ w5 ∷ 0 ∷ 0 ∷ 0 ∷ w10 ∷ []) []
 
+-- H with weights of the senders that its resources leave
+abbrev pub tableH : Table
+tableH = row0 9 (0 ∷ 0 ∷ 0 ∷ 0 ∷ 0 ∷ 0 ∷ 0 ∷ 1 ∷ 1 ∷ [])
+
 -- A with row 2 empty and w6 = 2
 abbrev pub twiceBroken : Table
 twiceBroken = table ((0 ∷ []) ∷ (1 ∷ []) ∷ [] ∷ []) 1 (0 ∷ 0 ∷ 0 ∷ 0 ∷ 0 ∷ 1 ∷ 2 ∷ 0 ∷ []) []
@@ -190,13 +207,13 @@ twiceBroken = table ((0 ∷ []) ∷ (1 ∷ []) ∷ [] ∷ []) 1 (0 ∷ 0 ∷ 0 �
 pub data Row : Type 0 where
   judged : Array → Table → Verdict → Row
   claimed : Table → Verdict → Row
-  walked : Array → List Attempt → Lent → Row
   starts : Array → Memory → Result → Row
+  steps : Array → Memory → Attempt → Result → Row
   wellFormed : Array → Memory → Bool → Row
   walks : Array → ℕ → Memory → Walked → Row
-  tried : Array → List Attempt → Attempt → Answer Marker (Cell Marker) → Row
-  safe : Array → Table → Config Marker (Cell Marker) → Row
-  unsafe : Array → Table → Config Marker (Cell Marker) → Row
+  tried : Array → List Attempt → Attempt → Answer Marker Cell → Row
+  safe : Array → Table → Config Marker Cell → Row
+  unsafe : Array → Table → Config Marker Cell → Row
   noStart : Array → Memory → Result → Row
   noStep : Array → Memory → Attempt → Result → Row
   noWalk : Array → ℕ → Memory → Memory → Row
@@ -208,8 +225,8 @@ pub data Row : Type 0 where
 abbrev pub Says : Row → Type 0
 Says (judged a t v) = verdict a t ≡ v
 Says (claimed t v) = check5 A t ≡ v
-Says (walked a us l) = attemptsLent a (startLent a (λ i. false)) us ≡ l
 Says (starts a m r) = startIn a (λ i. false) m ≡ r
+Says (steps a m u r) = stepIn a m u ≡ r
 Says (wellFormed a m b) = formed a m ≡ b
 Says (walks a k m w) = walkIn a (λ i. false) k m ≡ w
 Says (tried a us u x) = attempt calculus a (run calculus a (λ i. false) us) u ≡ x
@@ -244,14 +261,11 @@ rows =
     ∷ judged C (row0 1 (0 ∷ 0 ∷ 1 ∷ 0 ∷ 1 ∷ 0 ∷ [])) held
     -- *Weight 3, bound 2, most 0 meets rule 5.
     ∷ claimed (table [] 2 (3 ∷ []) (claim 0 0 ∷ [])) held
-    -- *B after two steps: threads 4 and 5, markers (4, 2, 0, 0), (4, 5, 0, 1).
-    ∷ walked B (pair 1 0 ∷ pair 0 1 ∷ [])
-    record {
-      markers = entry 4 2 0 0 ∷ entry 4 5 0 1 ∷ [];
-      threads = record { agent = 4; marker = 0; env = Cell.holds 0 0 ∷ [] } ∷ record { agent = 5; marker = 2; env = Cell.holds 0 0 ∷ [] } ∷ [];
-    }
-    -- The same in the engine's words: the start, and two steps of the walk. "B with 2 steps allowed: spent; with 0: spent after none."
+    -- *B after two steps: threads 4 and 5, markers (4, 2, 0, 0), (4, 5, 0, 1). Its start, and each of the two steps.
     ∷ starts B B₀ (leaves B₁)
+    ∷ steps B B₁ (pair 1 0) (leaves B₁₂)
+    ∷ steps B B₁₂ (pair 0 1) (leaves B₂)
+    -- The same by the walk. "B with 2 steps allowed: spent; with 0: spent after none."
     ∷ wellFormed B B₁ true
     ∷ walks B 2 B₁ record { ending = Spent; steps = 2; left = B₂ }
     ∷ wellFormed B B₂ true
@@ -321,8 +335,9 @@ toldRows =
 -- broken rules and places that are not the first
 abbrev pub laterRows : List Row
 laterRows =
-    -- Rule 4 breaks at 2, 5, 0 and at 2, 6, 0: the later pair is not named.
-    notFirst D (tableD 9 0 1) (at 4 (2 ∷ 6 ∷ 0 ∷ []))
+    -- Rule 4 breaks at 4, 3, 0 and at 5, 3, 0: the later receiver is not named; at 2, 5, 0 and at 2, 6, 0: nor is the later sender.
+    notFirst H tableH (at 4 (5 ∷ 3 ∷ 0 ∷ []))
+    ∷ notFirst D (tableD 9 0 1) (at 4 (2 ∷ 6 ∷ 0 ∷ []))
     -- Rules 2 and 4 break, and on A rules 3 and 4: the later rule is not named.
     ∷ notFirst D (tableD 1 1 2) (at 4 (2 ∷ 5 ∷ 0 ∷ []))
     ∷ notFirst A twiceBroken (at 4 (5 ∷ 3 ∷ 0 ∷ []))

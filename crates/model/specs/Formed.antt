@@ -1,10 +1,10 @@
 -- Refusals 8 to 12 of an array, as searches for their lowest place (01, "Refusals, in checking order").
-use Prim.Native.Nat.{ℕ, zero, suc, _+_, _≤_}
+use Prim.Native.Nat.{ℕ, zero, suc, _≤_}
 use mathlib.Core.Path.{_≡_}
-use mathlib.Core.Bool.{Bool, true, false, cond, not, _&&_, _||_}
+use mathlib.Core.Bool.{Bool, false, _&&_, _||_}
 use mathlib.Core.List.{List, [], _∷_, _++_}
 use lib.Dec.{eqb, ltb}
-use Rattle.laws.specs.Search.{Found, clear, hit, test, first, any, sum}
+use Rattle.laws.specs.Search.{Found, clear, test, first, any, sum}
 use Rattle.laws.specs.Lists.{all, has, times}
 use Rattle.model.specs.Tree.{Array, Sort, out, inp, resource, Node, stop, new, par, choice, agent, nodeAt}
 

@@ -12,8 +12,9 @@ use Rattle.laws.specs.Search.{Found, clear, hit, test, first, every}
 use Rattle.laws.specs.Lists.{put}
 use Rattle.model.specs.Tree.{Array, out, inp, resource, Node, stop, new, par, choice, agent, nodeAt, isAgent, isNew, isFree, procAt, Agent, agentAt}
 use Rattle.model.specs.Formed.{Refusal, refuse}
-use Rattle.model.specs.Calculus.{Notation, Marker, Cell, unheld, holds, calculus, Choices, Thread, Config, Attempt, Answer, refused, next, noThread, markerOf, attempt, start}
-use Rattle.model.specs.Numbers.{Entry, noEntry, sameEntry, position, decode, mapThread, mapCell, nobody, markersAfter}
+use Rattle.model.specs.Calculus.{Notation, Marker, Cell, unheld, holds, calculus, Choices, Thread, Config, Attempt, Answer, refused, next}
+use Rattle.model.specs.Calculus.{noThread, markerOf, attempt, start}
+use Rattle.model.specs.Numbers.{Entry, noEntry, sameEntry, position, decode, mapThread, nobody, markersAfter}
 use Rattle.model.specs.declared.Ending.{Ending}
 use Rattle.model.specs.declared.Ending.the-variants.{Quiet, Spent, Full}
 
@@ -265,13 +266,10 @@ resumed a ch k m (moved u n) = more (walkIn a ch (k - 1) n)
 
 -- ---- what the lists stand for: threads with marker trees, as the calculus has them
 
-unfoldable pub cellOf : ℕ → Cell ℕ
-cellOf x = cond (eqb x 0) unheld (holds (newIn x) (markerIn x))
+unfoldable pub decodeWord : List Entry → ℕ → Cell
+decodeWord es x = cond (eqb x 0) unheld (holds (newIn x) (decode es (markerIn x)))
 
-unfoldable pub decodeWord : List Entry → ℕ → Cell Marker
-decodeWord es x = mapCell (decode es) (cellOf x)
-
-unfoldable pub standsFor : Array → Memory → Config Marker (Cell Marker)
+unfoldable pub standsFor : Array → Memory → Config Marker Cell
 standsFor a m = map (mapThread (decode (entriesOf m)) (decodeWord (entriesOf m))) (configOf a m)
 
 -- ---- start, step and walk in the terms of the calculus
@@ -284,7 +282,7 @@ Starts a ch m r =
 
 -- a refusal of the calculus is the refusal of the step; a step of the calculus is stopped by 28, where it leaves more threads than
 -- fit, by 29, where it lists more markers than fit, or made
-abbrev pub Follows : Array → Memory → Attempt → Answer Marker (Cell Marker) → Result → Type 0
+abbrev pub Follows : Array → Memory → Attempt → Answer Marker Cell → Result → Type 0
 Follows a m u (refused n) r = r ≡ stops n
 Follows a m u (next d) r =
     ((r ≡ stops 28) × (threadRoom (a .names) (m .threads) < length d))
@@ -292,10 +290,10 @@ Follows a m u (next d) r =
     ⊎ ((n : Memory) × (r ≡ leaves n) × (standsFor a n ≡ d)))
 
 -- n steps of the calculus, each of the first ready pair, lead from configuration c to e
-abbrev pub Walks : Array → Choices → ℕ → Config Marker (Cell Marker) → Config Marker (Cell Marker) → Type 0
+abbrev pub Walks : Array → Choices → ℕ → Config Marker Cell → Config Marker Cell → Type 0
 Walks a ch zero c e = c ≡ e
 Walks a ch (suc n) c e =
-    (u : Attempt) × (d : Config Marker (Cell Marker)) × (firstReady calculus a ch c ≡ hit u) × (attempt calculus a c u ≡ next d) × Walks a ch n d e
+    (u : Attempt) × (d : Config Marker Cell) × (firstReady calculus a ch c ≡ hit u) × (attempt calculus a c u ≡ next d) × Walks a ch n d e
 
 -- why a walk of at most `allowed` steps ended where it did
 abbrev pub Ends : Array → Choices → ℕ → Walked → Ending → Type 0

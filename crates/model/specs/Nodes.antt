@@ -1,8 +1,7 @@
 -- Node by node, as code finds them from the last node to the first: the load, the free names and the agent of a node from
 -- its children's. proofs/Nodes shows that they are those of the process tree.
 use Prim.Native.Nat.{ℕ, _+_, max}
-use mathlib.Core.Bool.{Bool, true, false, not, _&&_, _||_}
-use mathlib.Core.List.{List}
+use mathlib.Core.Bool.{Bool, false, not, _&&_, _||_}
 use mathlib.Core.Option.{Option, none, some}
 use lib.Dec.{eqb}
 use Rattle.laws.specs.Lists.{has}

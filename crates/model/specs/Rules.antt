@@ -1,14 +1,13 @@
--- The table, live pairs, the five rules as statements, and the verdict as a search in order (01, "The table file",
--- "The five rules").
-use Prim.Native.Nat.{ℕ, zero, suc, _+_, _*_, _≤_, _<_}
+-- The table, live pairs, the five rules as statements with the tests that decide them, and the verdict as a search in order
+-- (01, "The table file", "The five rules").
+use Prim.Native.Nat.{ℕ, suc, _+_, _*_, _≤_, _<_}
 use mathlib.Core.Path.{_≡_}
-use mathlib.Core.Logic.{_⊎_}
-use mathlib.Core.Bool.{Bool, true, false, cond, not, _&&_, _||_}
+use mathlib.Core.Bool.{Bool, true, false, not, _&&_, _||_}
 use mathlib.Core.List.{List, [], _∷_}
 use mathlib.Core.Option.{Option, none, some}
 use lib.Dec.{eqb, leb, ltb}
 use lib.ListN.{length, getD}
-use Rattle.laws.specs.Search.{Found, clear, hit, test, andThen, under, first, every, any}
+use Rattle.laws.specs.Search.{Found, clear, test, andThen, under, first, every, any}
 use Rattle.model.specs.Tree.{Array, Sort, out, inp, resource, Agent, agentAt, procAt, receives, load, isNew}
 
 -- ---- the table
@@ -70,11 +69,14 @@ live t i j p q =
     && shareBit t (p .channel) (q .channel)
     && fitBoth t i j
 
--- ---- the five rules, each at one place
+-- ---- the five rules, each at one place: the statement, and the test that decides it (proofs/Verdict: decides1 to decides5)
 
 -- "1. Row o has bit o for every new o (place: o)."
 abbrev pub Rule1At : Array → Table → ℕ → Type 0
 Rule1At a t o = isNew a o ≡ true → t .row o o ≡ true
+
+abbrev pub rule1At : Array → Table → ℕ → Bool
+rule1At a t o = not (isNew a o) || t .row o o
 
 -- "2. The load of node 0 is within the bound (balance)."
 abbrev pub rootLoad : Array → Table → ℕ → ℕ
@@ -83,10 +85,16 @@ rootLoad a t k = load ((t .balance k) .weight) (procAt a 0)
 abbrev pub Rule2At : Array → Table → ℕ → Type 0
 Rule2At a t k = rootLoad a t k ≤ (t .balance k) .bound
 
+abbrev pub rule2At : Array → Table → ℕ → Bool
+rule2At a t k = leb (rootLoad a t k) ((t .balance k) .bound)
+
 -- "3. For every live pair, each sent name's row is contained in the matching parameter's row (p, q, argument from 1)."
 -- Argument n counts from 0 here, and its place is n + 1.
 abbrev pub Rule3At : Table → Agent → Agent → ℕ → Type 0
 Rule3At t p q n = Within t (getD (q .args) n 0) (getD (p .args) n 0)
+
+abbrev pub rule3At : Table → Agent → Agent → ℕ → Bool
+rule3At t p q n = within t (getD (q .args) n 0) (getD (p .args) n 0)
 
 -- the weight that a step takes off with the receiver: "weight p if p is an in"
 unfoldable pub taken : Sort → ℕ → ℕ
@@ -105,6 +113,9 @@ weightGone b i j p = b .weight j + taken (p .sort) (b .weight i)
 abbrev pub Rule4At : Table → ℕ → ℕ → Agent → Agent → ℕ → Type 0
 Rule4At t i j p q k = loadLeft (t .balance k) p q ≤ weightGone (t .balance k) i j p
 
+abbrev pub rule4At : Table → ℕ → ℕ → Agent → Agent → ℕ → Bool
+rule4At t i j p q k = leb (loadLeft (t .balance k) p q) (weightGone (t .balance k) i j p)
+
 -- "5. For every claim, its agent's weight in its balance × (most + 1) exceeds that balance's bound (claim)."
 abbrev pub claimWeight : Table → ℕ → ℕ
 claimWeight t c = balanceOf t c .weight (t .claim c .agent) * (t .claim c .most + 1)
@@ -112,29 +123,40 @@ claimWeight t c = balanceOf t c .weight (t .claim c .agent) * (t .claim c .most 
 abbrev pub Rule5At : Table → ℕ → Type 0
 Rule5At t c = balanceOf t c .bound < claimWeight t c
 
+abbrev pub rule5At : Table → ℕ → Bool
+rule5At t c = ltb (balanceOf t c .bound) (claimWeight t c)
+
 -- ---- the five rules
 
--- a statement about a live pair of agents at nodes i and j
-abbrev pub PairAt : Array → Table → ℕ → ℕ → (Agent → Agent → Type 0) → Type 0
-PairAt a t i j P = (p q : Agent) → agentAt a i ≡ some p → agentAt a j ≡ some q → Live t i j p q → P p q
+-- a statement holds at every number below n
+abbrev pub Each : ℕ → (ℕ → Type 0) → Type 0
+Each n P = (i : ℕ) → i < n → P i
 
-abbrev pub Pairs : Array → Table → (ℕ → ℕ → Agent → Agent → Type 0) → Type 0
-Pairs a t P = (i j : ℕ) → i < a .size → j < a .size → PairAt a t i j (P i j)
+-- at nodes i and j, a live pair of agents p and q meets a statement at every number below the pair's count
+abbrev pub PairAt : Array → Table → (Agent → ℕ) → (Agent → Agent → ℕ → Type 0) → ℕ → ℕ → Type 0
+PairAt a t count P i j = (p q : Agent) → agentAt a i ≡ some p → agentAt a j ≡ some q → Live t i j p q → Each (count p) (P p q)
+
+abbrev pub Pairs : Array → Table → (Agent → ℕ) → (ℕ → ℕ → Agent → Agent → ℕ → Type 0) → Type 0
+Pairs a t count P = Each (a .size) λ i. Each (a .size) λ j. PairAt a t count (P i j) i j
+
+-- rule 3 counts the arguments, rule 4 the balances
+abbrev pub arity : Agent → ℕ
+arity p = length (p .args)
 
 abbrev pub Rule1 : Array → Table → Type 0
-Rule1 a t = (o : ℕ) → o < a .names → Rule1At a t o
+Rule1 a t = Each (a .names) (Rule1At a t)
 
 abbrev pub Rule2 : Array → Table → Type 0
-Rule2 a t = (k : ℕ) → k < t .balances → Rule2At a t k
+Rule2 a t = Each (t .balances) (Rule2At a t)
 
 abbrev pub Rule3 : Array → Table → Type 0
-Rule3 a t = Pairs a t λ i j p q. (n : ℕ) → n < length (p .args) → Rule3At t p q n
+Rule3 a t = Pairs a t arity (λ i j. Rule3At t)
 
 abbrev pub Rule4 : Array → Table → Type 0
-Rule4 a t = Pairs a t λ i j p q. (k : ℕ) → k < t .balances → Rule4At t i j p q k
+Rule4 a t = Pairs a t (λ p. t .balances) (Rule4At t)
 
 abbrev pub Rule5 : Array → Table → Type 0
-Rule5 a t = (c : ℕ) → c < t .claims → Rule5At t c
+Rule5 a t = Each (t .claims) (Rule5At t)
 
 pub record Rules (a : Array) (t : Table) : Type 0 where
   pub rule1 : Rule1 a t
@@ -174,73 +196,56 @@ unfoldable pub pairs : Array → Table → (ℕ → ℕ → Agent → Agent → 
 pairs a t f = first (a .size) λ i. first (a .size) λ j. onLive t i j (agentAt a i) (agentAt a j) (f i j)
 
 unfoldable pub check1 : Array → Table → Verdict
-check1 a t = first (a .names) λ o. test (not (isNew a o) || t .row o o) (at 1 (o ∷ []))
+check1 a t = first (a .names) λ o. test (rule1At a t o) (at 1 (o ∷ []))
 
 unfoldable pub check2 : Array → Table → Verdict
-check2 a t = first (t .balances) λ k. test (leb (rootLoad a t k) ((t .balance k) .bound)) (at 2 (k ∷ []))
+check2 a t = first (t .balances) λ k. test (rule2At a t k) (at 2 (k ∷ []))
 
 unfoldable pub arguments3 : Table → ℕ → ℕ → Agent → Agent → Verdict
-arguments3 t i j p q = first (length (p .args)) λ n. test (within t (getD (q .args) n 0) (getD (p .args) n 0)) (at 3 (i ∷ j ∷ suc n ∷ []))
+arguments3 t i j p q = first (arity p) λ n. test (rule3At t p q n) (at 3 (i ∷ j ∷ suc n ∷ []))
 
 unfoldable pub check3 : Array → Table → Verdict
 check3 a t = pairs a t (arguments3 t)
 
 unfoldable pub balances4 : Table → ℕ → ℕ → Agent → Agent → Verdict
-balances4 t i j p q =
-    first (t .balances) λ k. test (leb (loadLeft (t .balance k) p q) (weightGone (t .balance k) i j p)) (at 4 (i ∷ j ∷ k ∷ []))
+balances4 t i j p q = first (t .balances) λ k. test (rule4At t i j p q k) (at 4 (i ∷ j ∷ k ∷ []))
 
 unfoldable pub check4 : Array → Table → Verdict
 check4 a t = pairs a t (balances4 t)
 
 unfoldable pub check5 : Array → Table → Verdict
-check5 a t = first (t .claims) λ c. test (ltb (balanceOf t c .bound) (claimWeight t c)) (at 5 (c ∷ []))
+check5 a t = first (t .claims) λ c. test (rule5At t c) (at 5 (c ∷ []))
 
 -- "Rules go in number order; 1, 2 and 5 name the lowest place."
 unfoldable pub verdict : Array → Table → Verdict
 verdict a t = andThen (check1 a t) (andThen (check2 a t) (andThen (check3 a t) (andThen (check4 a t) (check5 a t))))
 
--- ---- what a broken verdict says: the named rule fails at the named place, and everything before it holds
+-- ---- what a broken verdict says: the named rule is false at the named place, and everything before it holds. What is lacking there,
+-- or exceeded, follows (proofs/Verdict: lacks1, exceeds2, lacks3, exceeds4, reached5).
 
--- pair (i, j) comes before pair (k, l): lowest receiver first, then lowest sender
-abbrev pub Before : ℕ → ℕ → ℕ → ℕ → Type 0
-Before i j k l = (i < k) ⊎ ((i ≡ k) × (j < l))
+-- i is the first number below n at which a statement is false
+pub record FirstAt (n : ℕ) (P : ℕ → Type 0) (i : ℕ) : Type 0 where
+  pub below : i < n
+  pub fails : P i → ⊥
+  pub earlier : Each i P
 
--- a live pair at nodes i and j that fails, before which no live pair does
-pub record FirstPair (a : Array) (t : Table) (Holds : ℕ → ℕ → Agent → Agent → Type 0) (i j : ℕ) (Fails : Agent → Agent → Type 0) : Type 0 where
+-- "lowest p, then q, then the last figure": nodes i and j have a live pair that fails first at number n; no live pair with a lower
+-- receiver fails, and none with this receiver and a lower sender
+pub record FirstPair (a : Array) (t : Table) (count : Agent → ℕ) (P : ℕ → ℕ → Agent → Agent → ℕ → Type 0) (i j n : ℕ) : Type 0 where
   pub below : (i < a .size) × (j < a .size)
   pub p : Agent
   pub q : Agent
   pub receiver : agentAt a i ≡ some p
   pub sender : agentAt a j ≡ some q
   pub lives : Live t i j p q
-  pub fails : Fails p q
-  pub earlier : (k l : ℕ) → Before k l i j → k < a .size → l < a .size → PairAt a t k l (Holds k l)
-
--- argument n of a pair is the first that is not contained: opening o is in the sent row and not in the parameter's
-pub record Fails3 (t : Table) (n : ℕ) (p q : Agent) : Type 0 where
-  pub below : n < length (p .args)
-  pub opening : ℕ
-  pub small : opening < rowBits
-  pub sent : t .row (getD (q .args) n 0) opening ≡ true
-  pub lacks : t .row (getD (p .args) n 0) opening ≡ false
-  pub earlier : (m : ℕ) → m < n → Rule3At t p q m
-
--- balance k of a pair is the first that a step would exceed
-pub record Fails4 (t : Table) (i j k : ℕ) (p q : Agent) : Type 0 where
-  pub below : k < t .balances
-  pub exceeds : weightGone (t .balance k) i j p < loadLeft (t .balance k) p q
-  pub earlier : (m : ℕ) → m < k → Rule4At t i j p q m
+  pub fails : FirstAt (count p) (P i j p q) n
+  pub lower : Each i λ k. Each (a .size) λ l. PairAt a t count (P k l) k l
+  pub beside : Each j λ l. PairAt a t count (P i l) i l
 
 pub data FirstBroken (a : Array) (t : Table) : Broken → Type 0 where
-  broken1 : (o : ℕ) → o < a .names → isNew a o ≡ true → t .row o o ≡ false → ((m : ℕ) → m < o → Rule1At a t m)
-      → FirstBroken a t (at 1 (o ∷ []))
-  broken2 : Rule1 a t → (k : ℕ) → k < t .balances → (t .balance k) .bound < rootLoad a t k → ((m : ℕ) → m < k → Rule2At a t m)
-      → FirstBroken a t (at 2 (k ∷ []))
-  broken3 : Rule1 a t → Rule2 a t → (i j n : ℕ)
-      → FirstPair a t (λ k l p q. (m : ℕ) → m < length (p .args) → Rule3At t p q m) i j (Fails3 t n)
-      → FirstBroken a t (at 3 (i ∷ j ∷ suc n ∷ []))
-  broken4 : Rule1 a t → Rule2 a t → Rule3 a t → (i j k : ℕ)
-      → FirstPair a t (λ l m p q. (n : ℕ) → n < t .balances → Rule4At t l m p q n) i j (Fails4 t i j k)
+  broken1 : (o : ℕ) → FirstAt (a .names) (Rule1At a t) o → FirstBroken a t (at 1 (o ∷ []))
+  broken2 : Rule1 a t → (k : ℕ) → FirstAt (t .balances) (Rule2At a t) k → FirstBroken a t (at 2 (k ∷ []))
+  broken3 : Rule1 a t → Rule2 a t → (i j n : ℕ) → FirstPair a t arity (λ i j. Rule3At t) i j n → FirstBroken a t (at 3 (i ∷ j ∷ suc n ∷ []))
+  broken4 : Rule1 a t → Rule2 a t → Rule3 a t → (i j k : ℕ) → FirstPair a t (λ p. t .balances) (Rule4At t) i j k
       → FirstBroken a t (at 4 (i ∷ j ∷ k ∷ []))
-  broken5 : Rule1 a t → Rule2 a t → Rule3 a t → Rule4 a t → (c : ℕ) → c < t .claims → claimWeight t c ≤ balanceOf t c .bound
-      → ((m : ℕ) → m < c → Rule5At t m) → FirstBroken a t (at 5 (c ∷ []))
+  broken5 : Rule1 a t → Rule2 a t → Rule3 a t → Rule4 a t → (c : ℕ) → FirstAt (t .claims) (Rule5At t) c → FirstBroken a t (at 5 (c ∷ []))

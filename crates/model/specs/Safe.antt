@@ -1,14 +1,14 @@
 -- What an accepted table says of a configuration (01, "The list in demand 3").
-use Prim.Native.Nat.{ℕ, zero, suc, _+_, _≤_, _<_}
+use Prim.Native.Nat.{ℕ, _+_, _≤_, _<_}
 use mathlib.Core.Path.{_≡_}
-use mathlib.Core.Bool.{Bool, true, false}
-use mathlib.Core.List.{List, [], _∷_}
+use mathlib.Core.Bool.{Bool, true}
+use mathlib.Core.List.{[], _∷_}
 use lib.Dec.{eqb}
 use lib.ListN.{getD}
 use Rattle.laws.specs.Lists.{All, one}
 use Rattle.model.specs.Tree.{Array, procAt, isFree}
 use Rattle.model.specs.Calculus.{Marker, Cell, unheld, holds, Thread, Config}
-use Rattle.model.specs.Rules.{Table, Balance, Claim}
+use Rattle.model.specs.Rules.{Table}
 
 -- the sum of a number over all threads
 unfoldable pub total : {X C : Type 0} → (Thread X C → ℕ) → Config X C → ℕ
@@ -25,14 +25,14 @@ module _ {X C : Type 0} where
   count f c = total (λ t. one (f (t .agent))) c
 
 -- "for every thread and every name free in its agent, the name's row has the bit of its opening's new": the name has an opening
-abbrev pub Flows : Array → Table → Thread Marker (Cell Marker) → Type 0
+abbrev pub Flows : Array → Table → Thread Marker Cell → Type 0
 Flows a t th =
     (v : ℕ) → isFree (procAt a (th .agent)) v ≡ true
     → (o : ℕ) × (m : Marker) × (getD (th .env) v unheld ≡ holds o m) × (t .row v o ≡ true)
 
 -- "for every balance, the weights of all threads' agents add up, without wrapping, to at most its bound; for every claim, at
 -- most `most` threads are of its agent"
-pub record Safe (a : Array) (t : Table) (c : Config Marker (Cell Marker)) : Type 0 where
+pub record Safe (a : Array) (t : Table) (c : Config Marker Cell) : Type 0 where
   pub flows : All (Flows a t) c
   pub balances : (k : ℕ) → k < t .balances → weighed ((t .balance k) .weight) c ≤ (t .balance k) .bound
   pub claims : (q : ℕ) → q < t .claims → count (λ i. eqb i (t .claim q .agent)) c ≤ t .claim q .most

@@ -12,7 +12,7 @@
 //   proofs/Verdict  the verdict is held exactly when the rules hold; a broken verdict names the first broken rule and place
 //   proofs/Closed   the root of a well-formed array has no free name
 //   proofs/Safety   demand 3
-//   proofs/Decoded  steps on marker numbers are steps of the calculus
+//   proofs/Words    an attempt on words is the attempt of the calculus on the marker trees that they stand for
 //   proofs/Engine   start, step and walk on lent lists are those of the calculus, and keep what refusal 23 asks
 //   proofs/Told     the walk told step by step is the walk, and each step that is told is the calculus'
 //   proofs/Cases    the marked cases of 01, by computation

@@ -1,208 +1,163 @@
--- What the checker's lists say of agents, live pairs and figures.
-use Prim.Native.Nat.{ℕ, _+_, _*_, _≤_, _<_}
-use native.Mathlib.Nat.{le-of-suc-le-suc}
+-- What the checker's lists say of live pairs and figures, in an array file that was read.
+use Prim.Native.Nat.{ℕ, _+_, _*_, _<_}
 use native.Mathlib.Omega.{arith}
 use mathlib.Core.Path.{_≡_, refl, sym, ap, ap₂, _∙_}
-use mathlib.Core.Logic.{⊎-elim}
-use mathlib.Core.Bool.{Bool, true, false, cond, not, _&&_, _||_, true≢false}
+use mathlib.Core.Logic.{inl, inr}
+use mathlib.Core.Bool.{Bool, true, false, cond, _&&_, true≢false}
 use mathlib.Core.List.{List}
 use mathlib.Core.Option.{Option, none, some}
-use lib.Dec.{eqb, leb, ltb}
+use lib.Dec.{eqb, leb}
 use lib.ListN.{length, getD}
 use lib.Seq.{getD-take}
-use borrow.Author.Tests.{ltb-true, ltb-false, eqb-true, eqb-false, eq-eqb, ne-eqb}
-use Rattle.laws.specs.Search.{clear, under, every}
-use Rattle.laws.proofs.Search.{decided, any-same, every-same, clear-under}
+use borrow.Author.Tests.{eqb-true}
+use Rattle.laws.specs.Search.{clear, under}
+use Rattle.laws.proofs.Search.{decided, and-split}
 use Rattle.laws.proofs.Lists.{All-getD}
-use Rattle.wire.proofs.Laws.{u16-small}
 use Rattle.marks.specs.Marks.{share, inside}
-use Rattle.model.specs.Tree.{Array, inp, resource, procAt, Agent, agentAt, receives, load}
-use Rattle.model.specs.Nodes.{loadOf}
-use Rattle.model.specs.Formed.{WellFormed}
-use Rattle.model.specs.Rules.{Table, rowBits, live, shareBit, fitBoth, within, taken, loadLeft, weightGone, Verdict, onLive}
-use Rattle.model.proofs.Nodes.{load-at}
-use Rattle.model.proofs.Bounds.{load-bound}
-use Rattle.model.proofs.Verdict.{live-Live}
+use Rattle.model.specs.Tree.{Array, Agent, agentAt, isAgent, receives}
+use Rattle.model.specs.Memory.{isOut, isResource}
+use Rattle.model.specs.Rules.{Table, live, shareBit, fitBoth, within, taken, loadLeft, weightGone, Verdict, onLive}
 use Rattle.records.specs.declared.Record.{Record}
 use Rattle.records.specs.declared.Trailer.{Trailer}
-use Rattle.records.specs.Record.{argsOf, arrayOf}
-use Rattle.layout.specs.declared.Sizes.{Sizes}
-use Rattle.layout.specs.Table.{tableOf}
-use Rattle.arrays.specs.Agents.{sortOf, agentIn, Reads}
-use Rattle.arrays.proofs.Agents.{agent-node, receives-kind, node-is, agent-is, no-agent, arity-is, name-below, args-below, left-below}
-use Rattle.pairs.specs.Pairs.{Ready, livePair, HalfRow, HalfPair, bearsBoth, argumentHolds, balanceHolds}
+use Rattle.records.specs.Record.{argsOf, sortOf, nodeOf, arrayOf}
+use Rattle.records.specs.Kinds.{isReceiver}
+use Rattle.records.proofs.KindLaws.{receiver-is, sender-is, agent-sort, resource-is, in-is}
+use Rattle.arrays.specs.File.{IsRead}
+use Rattle.arrays.specs.Agents.{agentIn, Reads}
+use Rattle.arrays.proofs.Agents.{agent-is, no-agent, small-arity, arity-is, name-below, args-below, left-below}
+use Rattle.loads.specs.Loads.{loadIn}
+use Rattle.pairs.specs.declared.Side.{Side}
+use Rattle.pairs.specs.Pairs.{listed, Lists, Weighed, figureHolds, livePair, argumentHolds, balanceHolds}
+use Rattle.pairs.specs.Pairs.{takenOf, holdsAt, NameRow, ArgumentRows, HalfPair}
 
--- ---- records of agents
+-- an array file, and lists of n balances
+pub record Setting : Type 0 where
+  pub f : List ℕ
+  pub t : Trailer
+  pub n : ℕ
+  pub rows : List ℕ
+  pub loads : List ℕ
+  pub bounds : List ℕ
+
+abbrev pub setting : List ℕ → Trailer → ℕ → List ℕ → List ℕ → List ℕ → Setting
+setting f t n rows loads bounds = record { f = f; t = t; n = n; rows = rows; loads = loads; bounds = bounds }
+
+pub record Given (S : Setting) : Type 0 where
+  pub read : IsRead (S .f) (S .t)
+  pub lists : Lists (S .n) (S .rows) (S .bounds)
+  pub weighed : Weighed (S .loads) (arrayOf (S .f) (S .t)) (S .n)
+
+-- a side of the file
+abbrev pub Held : Setting → Side → Type 0
+Held S p = Reads (S .f) (S .t) (p .number) (p .node)
+
+abbrev pub alive : Setting → Side → Side → Bool
+alive S p q = livePair (S .rows) (S .loads) (S .bounds) (S .n) p q
 
 -- an in's weight goes, a resource's stays
-taken-kind : (k : ℕ) → 5 ≤ k → (w : ℕ) → cond (eqb k 5) w 0 ≡ taken (sortOf k) w
+taken-is : (r : Record) → isReceiver (nodeOf r) ≡ true → (w : ℕ) → takenOf r w ≡ taken (sortOf r) w
 unfolding taken
-taken-kind k h w = rw (ne-eqb k 4 (λ e. absurd (omega arith))) (go (eqb k 5))
-  where
-    go : (b : Bool) → cond b w 0 ≡ taken (cond b inp resource) w
-    go true = refl
-    go false = refl
+taken-is r h w = elim (decided (isResource (nodeOf r))) [ inl e ↦ rw (e, resource-is r e) | inr e ↦ rw (e, in-is r h e) ]
 
-module _ {f : List ℕ} {t : Trailer} {s : List ℕ} {z : Sizes} {rows loads bounds : List ℕ} (ready : Ready f t s z rows loads bounds) where
+arg-is : (r : Record) (m : ℕ) → m < r .arity → getD (argsOf r) m 0 ≡ getD (r .args) m 0
+arg-is r m h = getD-take (r .arity) (r .args) m 0 h
+
+module _ {S : Setting} (g : Given S) where
   abbrev a : Array
-  a = arrayOf f t
+  a = arrayOf (S .f) (S .t)
 
   abbrev T : Table
-  T = tableOf s z
+  T = listed (S .rows) (S .loads) (S .bounds) (S .n)
 
-  wf : WellFormed a
-  wf = ready .array .formed
+  -- ---- rows of an agent's names
 
-  pub arg-is : (r : Record) (n : ℕ) → n < r .arity → getD (argsOf r) n 0 ≡ getD (r .args) n 0
-  arg-is r n h = getD-take (r .arity) (r .args) n 0 h
+  row-fits : (v : ℕ) → v < S .t .names → 4 * v + 3 < length (S .rows)
+  row-fits v h = omega (arith, g .read .formed .fewNames, g .lists .manyRows)
 
-  -- an agent's names are below N
-  pub name-known : {i : ℕ} {r : Record} → Reads f t i r → 4 ≤ r .kind → r .name < z .names
-  name-known h k = rw (ready .table .laid .names) (name-below (ready .array) h k)
+  pub name-row : {p : Side} → Held S p → NameRow (S .rows) p
+  name-row h k = row-fits _ (name-below (g .read) h k)
 
-  pub arg-below : {i : ℕ} {r : Record} → Reads f t i r → 4 ≤ r .kind → (n : ℕ) → n < r .arity → getD (r .args) n 0 < z .names
-  arg-below {i} {r} h k n l =
-      let e = arity-is (ready .array) h in
-      let b = All-getD (λ y. y < t .names) (argsOf r) n 0 (args-below (ready .array) h k) (omega arith) in
-      rw (← arg-is r n l, ready .table .laid .names) b
+  arg-row : {p : Side} → Held S p → isAgent (nodeOf (p .node)) ≡ true → (m : ℕ) → m < p .node .arity → 4 * getD (p .node .args) m 0 + 3 < length (S .rows)
+  arg-row {p} h k m l =
+      let e = arity-is (g .read) h in
+      row-fits _ (rw (← arg-is (p .node) m l) (All-getD (λ y. y < S .t .names) (argsOf (p .node)) m 0 (args-below (g .read) h k) (omega arith)))
 
-  -- its load is its weight
-  pub load-agent : {i : ℕ} {r : Record} → Reads f t i r → 4 ≤ r .kind → (w : ℕ → ℕ) → load w (procAt a i) ≡ w i
-  unfolding loadOf
-  load-agent {i} {r} h k w = load-at a (wf .children) i (h .below) w ∙ ap (loadOf w i (λ l. load w (procAt a l))) (node-is (ready .array) h ∙ agent-node r k)
+  -- ---- a node that does not receive is in no pair
 
-  pub weight-is : {i : ℕ} {r : Record} → Reads f t i r → 4 ≤ r .kind → (n : ℕ) → n < z .balances → getD loads (24 * i + n) 0 ≡ (T .balance n) .weight i
-  weight-is {i} h k n l = ready .weighs i n (h .below) l ∙ load-agent h k ((T .balance n) .weight)
-
-  -- a load is at most what 1024 nodes of 16-bit weights could weigh
-  pub half-row : (i : ℕ) → i < t .nodes → HalfRow loads (z .balances) i
-  half-row i h k l =
-      let small : (j : ℕ) → (T .balance k) .weight j ≤ 65535 = λ j. le-of-suc-le-suc (u16-small s (ready .bytes) _) in
-      let bound = load-bound a (wf .children) (wf .parents) ((T .balance k) .weight) i h 65535 small in
-      let nodes = wf .fewNodes in
-      (omega (arith, ready .table .laid .fewBalances, ready .manyLoads), omega (arith, ready .weighs i k h l))
-
-  -- ---- rows
-
-  names-few : z .names ≤ 256
-  names-few = let e = ready .table .laid .names in omega (arith, wf .fewNames)
-
-  pub row-fits : (v : ℕ) → v < z .names → 4 * v + 3 < length rows
-  row-fits v h = let n = names-few in let e = ready .manyRows in omega arith
-
-  pub name-row : {i : ℕ} {r : Record} → Reads f t i r → 4 ≤ r .kind → 4 * r .name + 3 < length rows
-  name-row {i} {r} h k = row-fits (r .name) (name-known h k)
-
-  pub share-is : (u v : ℕ) → u < z .names → v < z .names → share rows (4 * u) (4 * v) ≡ shareBit T u v
-  unfolding share shareBit
-  share-is u v hu hv = any-same rowBits _ _ (λ o h. ap₂ _&&_ (ready .marks u o hu h) (ready .marks v o hv h))
-
-  pub inside-is : (u v : ℕ) → u < z .names → v < z .names → inside rows (4 * u) rows (4 * v) ≡ within T u v
-  unfolding inside within
-  inside-is u v hu hv = every-same rowBits _ _ (λ o h. ap₂ (λ (x y : Bool). not x || y) (ready .marks u o hu h) (ready .marks v o hv h))
-
-  -- ---- a node of a kind below 5 receives in no pair
-
-  pub no-receiver : {p : ℕ} {rp : Record} → Reads f t p rp → rp .kind < 5 → (q : ℕ) (g : Agent → Agent → Verdict)
-      → onLive T p q (agentAt a p) (agentAt a q) g ≡ clear
-  unfolding onLive
-  no-receiver {p} {rp} h k q g =
-      ⊎-elim
-      (λ (e : ltb (rp .kind) 4 ≡ true). rw (no-agent (ready .array) h (ltb-true _ _ e)))
-      (λ (e : ltb (rp .kind) 4 ≡ false). let l = ltb-false _ _ e in rw (agent-is (ready .array) h l) (sends (omega arith) (agentAt a q)))
-      (decided (ltb (rp .kind) 4))
+  pub no-receiver : {p : Side} → Held S p → isReceiver (nodeOf (p .node)) ≡ false → (j : ℕ) (v : Agent → Agent → Verdict)
+      → onLive T (p .number) j (agentAt a (p .number)) (agentAt a j) v ≡ clear
+  unfolding onLive live under
+  no-receiver {p} h k j v =
+      elim (decided (isAgent (nodeOf (p .node)))) [
+        | inl e ↦ rw (agent-is (g .read) h e) (sends (sym (agent-sort (p .node) e .0) ∙ k) (agentAt a j))
+        | inr e ↦ rw (no-agent (g .read) h e)
+      ]
     where
-      sends : rp .kind ≡ 4 → (x : Option Agent) → onLive T p q (some (agentIn a rp)) x g ≡ clear
+      sends : receives (sortOf (p .node)) ≡ false → (x : Option Agent) → onLive T (p .number) j (some (agentIn a (p .node))) x v ≡ clear
       sends e none = refl
-      sends e (some y) =
-          clear-under (live T p q (agentIn a rp) y) (g (agentIn a rp) y)
-          (λ l. absurd (true≢false (sym (live-Live T p q (agentIn a rp) y l .receiver) ∙ receives-kind (rp .kind) ∙ ap not (eq-eqb (rp .kind) 4 e))))
+      sends e (some y) = rw e
 
-  -- ---- live pairs: receiver p of kind 5 or above, and q
+  -- ---- a receiver p, and q
 
-  module _ {p : ℕ} {rp : Record} (hp : Reads f t p rp) (kp : 5 ≤ rp .kind) {q : ℕ} {rq : Record} (hq : Reads f t q rq) where
-    receives-p : receives (sortOf (rp .kind)) ≡ true
-    receives-p = receives-kind (rp .kind) ∙ ap not (ne-eqb (rp .kind) 4 (λ e. absurd (omega arith)))
+  module _ {p : Side} (hp : Held S p) (rp : isReceiver (nodeOf (p .node)) ≡ true) {q : Side} (hq : Held S q) where
+    agent-p : isAgent (nodeOf (p .node)) ≡ true
+    agent-p = receiver-is (p .node) rp .0
 
-    receiver-is : agentAt a p ≡ some (agentIn a rp)
-    receiver-is = agent-is (ready .array) hp (omega arith)
+    live-is : isAgent (nodeOf (q .node)) ≡ true → live T (p .number) (q .number) (agentIn a (p .node)) (agentIn a (q .node)) ≡ alive S p q
+    unfolding live shareBit fitBoth share
+    live-is k = rw (receiver-is (p .node) rp .1, ← agent-sort (q .node) k .1, arity-is (g .read) hp, arity-is (g .read) hq)
 
-    -- a pair whose second node is no out
-    pub live-else : (rq .kind ≡ 4 → ⊥) → livePair a T p rp q rq ≡ false
-    unfolding live
-    live-else n = rw (receives-p, receives-kind (rq .kind), ne-eqb (rq .kind) 4 n)
-
-    fits-is : rq .kind ≡ 4
-        → fitBoth T p q ≡ every (z .balances) (λ k. bearsBoth loads bounds p q k)
-    unfolding fitBoth
-    fits-is e =
-        every-same (z .balances) _ _ (λ k h.
-        ap₂ leb (ap₂ _+_ (sym (weight-is hp (omega arith) k h)) (sym (weight-is hq (omega arith) k h))) (sym (ready .bears k h)))
-
-    live-out : rq .kind ≡ 4 → livePair a T p rp q rq
-        ≡ (eqb (rp .arity) (rq .arity) && share rows (4 * rp .name) (4 * rq .name))
-        && every (z .balances) (λ k. bearsBoth loads bounds p q k)
-    unfolding live
-    live-out e =
-        let sh = share-is (rp .name) (rq .name) (name-known hp (omega arith)) (name-known hq (omega arith)) in
-        rw (receives-p, receives-kind (rq .kind), eq-eqb (rq .kind) 4 e, arity-is (ready .array) hp, arity-is (ready .array) hq, ← sh, fits-is e)
-
-    -- one test after another
-    pub live-arity : rq .kind ≡ 4 → (rp .arity ≡ rq .arity → ⊥) → livePair a T p rp q rq ≡ false
-    live-arity e n = live-out e ∙ rw (ne-eqb (rp .arity) (rq .arity) n)
-
-    module _ (e : rq .kind ≡ 4) (n : rp .arity ≡ rq .arity) where
-      pub live-unshared : share rows (4 * rp .name) (4 * rq .name) ≡ false → livePair a T p rp q rq ≡ false
-      live-unshared h = live-out e ∙ rw (eq-eqb (rp .arity) (rq .arity) n, h)
-
-      pub live-fits : share rows (4 * rp .name) (4 * rq .name) ≡ true → livePair a T p rp q rq
-          ≡ every (z .balances) (λ k. bearsBoth loads bounds p q k)
-      live-fits h = live-out e ∙ rw (eq-eqb (rp .arity) (rq .arity) n, h)
-
-    -- what a live pair is
-    pub live-sends : livePair a T p rp q rq ≡ true → rq .kind ≡ 4
-    live-sends l =
-        ⊎-elim
-        (λ (e : eqb (rq .kind) 4 ≡ true). eqb-true _ _ e)
-        (λ (e : eqb (rq .kind) 4 ≡ false). absurd (true≢false (sym l ∙ live-else (eqb-false _ _ e))))
-        (decided (eqb (rq .kind) 4))
-
-    pub live-arities : livePair a T p rp q rq ≡ true → rp .arity ≡ rq .arity
-    live-arities l = sym (arity-is (ready .array) hp) ∙ live-Live T p q (agentIn a rp) (agentIn a rq) l .arities ∙ arity-is (ready .array) hq
-
-    -- a search at the pair, by the two records
-    pub pair-is : (g : Agent → Agent → Verdict) → onLive T p q (agentAt a p) (agentAt a q) g
-        ≡ under (livePair a T p rp q rq) (g (agentIn a rp) (agentIn a rq))
+    -- a search at the pair
+    pub pair-is : (v : Agent → Agent → Verdict) → onLive T (p .number) (q .number) (agentAt a (p .number)) (agentAt a (q .number)) v
+        ≡ under (alive S p q) (v (agentIn a (p .node)) (agentIn a (q .node)))
     unfolding onLive under
-    pair-is g =
-        ⊎-elim
-        (λ (e : ltb (rq .kind) 4 ≡ true). let k = ltb-true _ _ e in rw (receiver-is, no-agent (ready .array) hq k, live-else (λ d. absurd (omega arith))))
-        (λ (e : ltb (rq .kind) 4 ≡ false). rw (receiver-is, agent-is (ready .array) hq (ltb-false _ _ e)))
-        (decided (ltb (rq .kind) 4))
+    pair-is v =
+        elim (decided (isAgent (nodeOf (q .node)))) [
+          | inl k ↦ rw (agent-is (g .read) hp agent-p, agent-is (g .read) hq k, live-is k)
+          | inr k ↦ rw (agent-is (g .read) hp agent-p, no-agent (g .read) hq k, unsent k)
+        ]
+      where
+        unsent : isAgent (nodeOf (q .node)) ≡ false → isOut (nodeOf (q .node)) ≡ false
+        unsent k = elim (decided (isOut (nodeOf (q .node)))) [ inl e ↦ absurd (true≢false (sym (sender-is (q .node) e .0) ∙ k)) | inr e ↦ e ]
 
-    -- ---- figures of a live pair
+    -- ---- the figures of a live pair
 
-    module _ (l : livePair a T p rp q rq ≡ true) where
-      pub half-pair : HalfPair loads (z .balances) p rp q rq
-      half-pair =
-          let k = live-sends l in
-          let left-p = left-below (ready .array) hp (omega arith) in
-          let left-q = left-below (ready .array) hq (omega arith) in
-          (half-row p (hp .below), half-row q (hq .below), half-row (rp .left) left-p, half-row (rq .left) left-q)
+    module _ (l : alive S p q ≡ true) where
+      parts : (isOut (nodeOf (q .node)) ≡ true) × (eqb (p .node .arity) (q .node .arity) ≡ true)
+      parts = and-split _ _ (and-split (isOut (nodeOf (q .node)) && eqb (p .node .arity) (q .node .arity)) _ (and-split _ _ l .0) .0)
 
-      pub argument-is : (n : ℕ) → n < rp .arity → argumentHolds rows rp rq n ≡ within T (getD (argsOf rq) n 0) (getD (argsOf rp) n 0)
-      argument-is n h =
-          let e = live-arities l in
-          let k = live-sends l in
-          let hq′ : n < rq .arity = omega arith in
-          inside-is (getD (rq .args) n 0) (getD (rp .args) n 0) (arg-below hq (omega arith) n hq′) (arg-below hp (omega arith) n h)
-          ∙ ap₂ (within T) (sym (arg-is rq n hq′)) (sym (arg-is rp n h))
+      agent-q : isAgent (nodeOf (q .node)) ≡ true
+      agent-q = sender-is (q .node) (parts .0) .0
 
-      pub balance-is : (n : ℕ) → n < z .balances
-          → balanceHolds loads p rp q rq n ≡ leb (loadLeft (T .balance n) (agentIn a rp) (agentIn a rq)) (weightGone (T .balance n) p q (agentIn a rp))
-      balance-is n h =
-          let k = live-sends l in
-          ap₂ leb
-          (ap₂ _+_ (ready .weighs (rp .left) n (left-below (ready .array) hp (omega arith)) h) (ready .weighs (rq .left) n (left-below (ready .array) hq (omega arith)) h))
-          (ap₂ _+_ (weight-is hq (omega arith) n h)
-          (ap (λ (x : ℕ). cond (eqb (rp .kind) 5) x 0) (weight-is hp (omega arith) n h) ∙ taken-kind (rp .kind) kp ((T .balance n) .weight p)))
+      arities : p .node .arity ≡ q .node .arity
+      arities = eqb-true _ _ (parts .1)
+
+      pub half-pair : (k : ℕ) → k < S .n → HalfPair (S .loads) p q k
+      half-pair k h =
+          let half : (i : ℕ) → i < S .t .nodes → _ = λ i b. g .weighed .half i b k h in
+          (half _ (hp .below), half _ (hq .below), half _ (left-below (g .read) hp agent-p), half _ (left-below (g .read) hq agent-q))
+
+      pub argument-rows : (m : ℕ) → m < p .node .arity → ArgumentRows (S .rows) p q m
+      argument-rows m h =
+          let e = arities in
+          (omega (arith, small-arity (g .read) hp), arg-row hp agent-p m h, arg-row hq agent-q m (omega arith))
+
+      argument-is : (m : ℕ) → m < p .node .arity → within T (getD (argsOf (q .node)) m 0) (getD (argsOf (p .node)) m 0) ≡ argumentHolds (S .rows) p q m
+      unfolding within inside
+      argument-is m h = let e = arities in rw (arg-is (q .node) m (omega arith), arg-is (p .node) m h)
+
+      balance-is : (k : ℕ) → k < S .n
+          → leb (loadLeft (T .balance k) (agentIn a (p .node)) (agentIn a (q .node))) (weightGone (T .balance k) (p .number) (q .number) (agentIn a (p .node)))
+          ≡ balanceHolds (S .loads) p q k
+      balance-is k h =
+          let w = g .weighed .weighs in
+          ap₂ leb (ap₂ _+_ (sym (w _ k (left-below (g .read) hp agent-p) h)) (sym (w _ k (left-below (g .read) hq agent-q) h)))
+          (ap (λ (x : ℕ). loadIn (S .loads) (q .number) k + x) (sym (taken-is (p .node) rp _)))
+
+      pub figure-is : (rule m : ℕ) → m < cond (eqb rule 3) (p .node .arity) (S .n)
+          → figureHolds rule T (p .number) (q .number) (agentIn a (p .node)) (agentIn a (q .node)) m ≡ holdsAt rule (S .rows) (S .loads) p q m
+      figure-is rule m h =
+          elim (decided (eqb rule 3)) [
+            | inl e ↦ rw e (argument-is m (rw e at h))
+            | inr e ↦ rw e (balance-is m (rw e at h))
+          ]

@@ -131,4 +131,5 @@ module _ (a : Array) (es : List Entry) (c : Config ℕ ℕ) (u : Attempt) where
 pub first-is : (a : Array) (es : List Entry) (c : Config ℕ ℕ) (ch : Choices) → firstMeeting a c (length c) ch ≡ firstReady (words es) a ch c
 unfolding firstMeeting firstReady
 first-is a es c ch =
-    first-same (length c) _ _ λ i hi. first-same (length c) _ _ λ j hj. ap (λ (b : Bool). test (not b) (try ch i j)) (sym (next-number a es c (try ch i j) hi hj))
+    first-same (length c) _ _ λ i hi. first-same (length c) _ _ λ j hj.
+    ap (λ (b : Bool). test (not b) (try ch i j)) (sym (next-number a es c (try ch i j) hi hj))

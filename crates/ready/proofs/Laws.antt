@@ -1,43 +1,30 @@
 -- Two threads by their agents' records: what the model's refusals 25 to 27 of them are, and the search for the first ready pair.
 use Prim.Native.Nat.{ℕ, _+_, _*_, _≤_, _<_}
 use native.Mathlib.Omega.{arith}
-use mathlib.Core.Path.{_≡_, refl, sym, ap, ap₂, _∙_, subst}
-use mathlib.Core.Logic.{⊎-elim}
-use mathlib.Core.Bool.{Bool, true, false, cond, not, _&&_, Bool·not-not}
+use mathlib.Core.Path.{_≡_, refl, sym, ap, ap₂, _∙_}
+use mathlib.Core.Bool.{Bool, true, false, cond, not, _&&_}
 use mathlib.Core.List.{List, []}
 use mathlib.Core.Option.{Option, some}
-use lib.Dec.{eqb, leb}
+use lib.Dec.{eqb}
 use lib.ListN.{length, getD, drop}
-use borrow.Author.Tests.{leb-true, leb-false, lt-leb, eq-eqb, ne-eqb}
 use Rattle.laws.specs.Search.{Found, clear, hit, test, first}
-use Rattle.laws.proofs.Search.{decided, clear-test, hit-test, first-here, clear-first}
+use Rattle.laws.proofs.Search.{clear-test, hit-test, first-here, clear-first}
 use Rattle.model.specs.Tree.{nodeAt, Agent, agentAt, receives, isAgent}
 use Rattle.model.specs.Calculus.{Thread, Choices, Attempt, next, unless, onAgents}
 use Rattle.model.specs.Numbers.{nobody}
-use Rattle.model.specs.Memory.{words, threadIn, threadsIn, try}
+use Rattle.model.specs.Memory.{words, threadIn, threadsIn, try, isOut}
 use Rattle.model.proofs.Tree.{agent-inside}
 use Rattle.model.proofs.Memory.{threads-at, agent-word}
-use Rattle.records.specs.declared.Record.{Record}
 use Rattle.records.specs.declared.Trailer.{Trailer}
-use Rattle.records.specs.Record.{recordOf, argsOf, arrayOf}
-use Rattle.records.proofs.Laws.{agent-below}
+use Rattle.records.specs.Record.{recordOf, argsOf, sortOf, nodeOf, arrayOf}
+use Rattle.records.specs.Kinds.{isReceiver}
+use Rattle.records.proofs.KindLaws as K
 use Rattle.arrays.specs.File.{IsRead}
-use Rattle.arrays.specs.Agents.{sortOf, agentIn, Reads}
-use Rattle.arrays.proofs.Agents.{receives-kind, agent-is, arity-is, name-below}
+use Rattle.arrays.specs.Agents.{agentIn, Reads}
+use Rattle.arrays.proofs.Agents.{node-is, agent-is, arity-is, name-below}
 use Rattle.ready.specs.declared.Act.{Act}
-use Rattle.ready.specs.Ready.{numberOf, meeting, actOf, actAt, meet, FirstSender}
+use Rattle.ready.specs.Ready.{Acts, numberOf, meeting, actOf, actAt, meet, FirstSender}
 use Rattle.ready.proofs.Attempts.{checked}
-
--- ---- which kinds receive and which send
-
-receiver-kind : (k : ℕ) → 4 ≤ k → receives (sortOf k) ≡ leb 5 k
-receiver-kind k h =
-    receives-kind k
-    ∙ ⊎-elim (λ (e : leb 5 k ≡ true). let l = leb-true 5 k e in rw (e, ne-eqb k 4 (λ q. omega arith)))
-    (λ (e : leb 5 k ≡ false). let l = leb-false 5 k e in rw (e, eq-eqb k 4 (omega arith))) (decided (leb 5 k))
-
-sender-kind : (k : ℕ) → not (receives (sortOf k)) ≡ eqb k 4
-sender-kind k = ap not (receives-kind k) ∙ Bool·not-not (eqb k 4)
 
 -- ---- the number of a refusal
 
@@ -54,18 +41,14 @@ module _ (s : List ℕ) (t : Trailer) (read : IsRead s t) where
     reads : Reads s t i (recordOf s t i)
     reads = record { below = agent-inside (arrayOf s t) i agent; is = refl }
 
-    agent-kind : 4 ≤ recordOf s t i .kind
-    agent-kind = leb-true 4 (recordOf s t i .kind) (agent-below s t i (reads .below) ∙ agent)
+    acts : isAgent (nodeOf (recordOf s t i)) ≡ true
+    acts = ap isAgent (sym (node-is read reads)) ∙ agent
 
     pub agent-name : recordOf s t i .name < t .names
-    agent-name = name-below read reads agent-kind
-
-    -- the same of a record that was read
-    pub name-read : (r : Record) (j : ℕ) → j ≡ i → r ≡ recordOf s t j → r .name < t .names
-    name-read r j e f = subst (λ (v : Record). v .name < t .names) (sym (f ∙ ap (recordOf s t) e)) agent-name
+    agent-name = name-below read reads acts
 
     found : agentAt (arrayOf s t) i ≡ some (agentIn (arrayOf s t) (recordOf s t i))
-    found = agent-is read reads agent-kind
+    found = agent-is read reads acts
 
     length-args : length (argsOf (recordOf s t i)) ≡ recordOf s t i .arity
     length-args = arity-is read reads
@@ -77,8 +60,8 @@ module _ (s : List ℕ) (t : Trailer) (read : IsRead s t) where
   met x y hx hy =
       let p = recordOf s t (x .agent) in
       let q = recordOf s t (y .agent) in
-      let one : receives (sortOf (p .kind)) && not (receives (sortOf (q .kind))) ≡ leb 5 (p .kind) && eqb (q .kind) 4 =
-      ap₂ _&&_ (receiver-kind (p .kind) (agent-kind (x .agent) hx)) (sender-kind (q .kind)) in
+      let one : receives (sortOf p) && not (receives (sortOf q)) ≡ isReceiver (nodeOf p) && isOut (nodeOf q) =
+      sym (ap₂ _&&_ (K.agent-sort p (acts (x .agent) hx) .0) (K.agent-sort q (acts (y .agent) hy) .1)) in
       let two : eqb (length (argsOf p)) (length (argsOf q)) ≡ eqb (p .arity) (q .arity) =
       ap₂ eqb (length-args (x .agent) hx) (length-args (y .agent) hy) in
       let three : Bool = not (eqb (getD (x .env) (p .name) 0) 0) && eqb (getD (x .env) (p .name) 0) (getD (y .env) (q .name) 0) in
@@ -88,9 +71,9 @@ module _ (s : List ℕ) (t : Trailer) (read : IsRead s t) where
 -- ---- searches
 
 -- what is no in or resource is ready with no sender
-pub no-receiver : (p q : Act) → p .kind < 5 → eqb (meet p q) 0 ≡ false
+pub no-receiver : (p q : Act) → p .receives ≡ false → eqb (meet p q) 0 ≡ false
 unfolding meet
-no-receiver p q h = rw (lt-leb 5 (p .kind) h)
+no-receiver p q h = rw h
 
 -- the model's number for threads r and q of a list of words
 abbrev number : List ℕ → Trailer → List ℕ → ℕ → ℕ → ℕ → ℕ
@@ -103,6 +86,11 @@ row s t l count ch r = first count (λ q. test (not (eqb (number s t l count r q
 -- the thread at a place, by its position
 pub act-here : (s : List ℕ) (t : Trailer) (l : List ℕ) (i at : ℕ) → at ≡ i * (2 + t .names) → actOf s t (threadIn (t .names) (drop at l)) ≡ actAt s t l i
 act-here s t l i at e = ap (λ (k : ℕ). actOf s t (threadIn (t .names) (drop k l))) e
+
+-- a thread that lies in the list, as the model reads it
+pub agent-acts : {s : List ℕ} {t : Trailer} {l : List ℕ} {i : ℕ} → Acts s t l i
+    → isAgent (nodeAt (arrayOf s t) (threadIn (t .names) (drop (i * (2 + t .names)) l) .agent)) ≡ true
+agent-acts {s} {t} {l} {i} h = ap (λ (j : ℕ). isAgent (nodeAt (arrayOf s t) j)) (agent-word (t .names) (i * (2 + t .names)) l) ∙ h .agent
 
 module _ (s : List ℕ) (t : Trailer) (l : List ℕ) (count : ℕ)
     (agents : (i : ℕ) → i < count → isAgent (nodeAt (arrayOf s t) (getD l (i * (2 + t .names)) 0)) ≡ true) where

@@ -2,15 +2,15 @@
 use Prim.Native.Nat.{ℕ, _+_, _<_}
 use native.Mathlib.Nat.{not-suc-le-zero, eq-or-lt-of-le, add-zero}
 use native.Mathlib.Omega.{arith}
-use mathlib.Core.Path.{_≡_, ap, _∙_, subst}
-use mathlib.Core.Logic.{_≢_, ⊎-elim}
-use mathlib.Core.Bool.{true, false, and-false}
+use mathlib.Core.Path.{_≡_, sym, ap, _∙_, subst}
+use mathlib.Core.Logic.{⊎-elim}
+use mathlib.Core.Bool.{true, false, and-false, true≢false}
 use mathlib.Core.List.{List}
-use lib.Dec.{eqb, leb, ltb}
+use lib.Dec.{eqb, ltb}
 use lib.ListN.{length, getD, set}
 use lib.Seq.{getD-set-same, getD-set-other}
 use borrow.Author.Count.{below-more}
-use borrow.Author.Tests.{eqb-true, eqb-false, ltb-true, ltb-false, ne-eqb}
+use borrow.Author.Tests.{ltb-true, ltb-false}
 use Rattle.laws.specs.Lists.{one}
 use Rattle.laws.proofs.Search.{decided}
 use Rattle.records.specs.declared.Trailer.{Trailer}
@@ -18,9 +18,9 @@ use Rattle.ready.specs.declared.Act.{Act}
 use Rattle.ready.specs.Ready.{actAt, meet, NoneReady, Noted}
 
 -- what is no out is ready with no receiver
-no-sender : (p q : Act) → q .kind ≢ 4 → eqb (meet p q) 0 ≡ false
+no-sender : (p q : Act) → q .sends ≡ false → eqb (meet p q) 0 ≡ false
 unfolding meet
-no-sender p q h = rw (ne-eqb (q .kind) 4 h, and-false (leb 5 (p .kind)))
+no-sender p q h = rw (h, and-false (p .receives))
 
 module _ (s : List ℕ) (t : Trailer) (l : List ℕ) where
   pub noted-none : (xs : List ℕ) → Noted s t l 0 xs 0
@@ -44,20 +44,21 @@ module _ (s : List ℕ) (t : Trailer) (l : List ℕ) where
         }
 
     -- a thread that sends nothing, and one that does and is noted
-    noted-skip : actAt s t l i .kind ≢ 4 → Noted s t l (i + 1) xs n
+    noted-skip : actAt s t l i .sends ≡ false → Noted s t l (i + 1) xs n
     noted-skip ne = record {
       few = let f = h .few in omega arith;
       below = λ k lt. let b = h .below k lt in omega arith;
       rising = h .rising;
-      whole = below-more (λ j. actAt s t l j .kind ≡ 4 → (k : ℕ) × (k < n) × (getD xs k 0 ≡ j)) i (h .whole) (λ e. absurd (ne e));
+      whole = below-more (λ j. actAt s t l j .sends ≡ true → (k : ℕ) × (k < n) × (getD xs k 0 ≡ j)) i (h .whole) (λ e. absurd (true≢false (sym e ∙ ne)));
     }
 
     noted-add : getD xs n 0 ≡ i → Noted s t l (i + 1) xs (n + 1)
     noted-add here = record {
       few = let f = h .few in omega arith;
       below = below-more (λ k. getD xs k 0 < i + 1) n (λ k lt. let b = h .below k lt in omega arith) (omega arith);
-      rising = λ j k lt m. below-more (λ k. j < k → getD xs j 0 < getD xs k 0) n (λ k m lt. h .rising j k lt m) (λ lt. let b = h .below j lt in omega arith) k m lt;
-      whole = below-more (λ j. actAt s t l j .kind ≡ 4 → (k : ℕ) × (k < n + 1) × (getD xs k 0 ≡ j)) i
+      rising = λ j k lt m.
+          below-more (λ k. j < k → getD xs j 0 < getD xs k 0) n (λ k m lt. h .rising j k lt m) (λ lt. let b = h .below j lt in omega arith) k m lt;
+      whole = below-more (λ j. actAt s t l j .sends ≡ true → (k : ℕ) × (k < n + 1) × (getD xs k 0 ≡ j)) i
           (λ j lt e. let w = h .whole j lt e in let b = w .1 in (w .0, omega arith, w .2)) (λ e. (n, omega arith, here));
     }
 
@@ -65,8 +66,8 @@ module _ (s : List ℕ) (t : Trailer) (l : List ℕ) where
     module _ (p : Act) where
       at-noted : (j : ℕ) → j < i → ((k : ℕ) → k < n → getD xs k 0 ≡ j → eqb (meet p (actAt s t l j)) 0 ≡ false) → eqb (meet p (actAt s t l j)) 0 ≡ false
       at-noted j lt f =
-          ⊎-elim (λ (e : eqb (actAt s t l j .kind) 4 ≡ true). let w = h .whole j lt (eqb-true _ 4 e) in f (w .0) (w .1) (w .2))
-          (λ (e : eqb (actAt s t l j .kind) 4 ≡ false). no-sender p _ (eqb-false _ 4 e)) (decided (eqb (actAt s t l j .kind) 4))
+          ⊎-elim (λ (e : actAt s t l j .sends ≡ true). let w = h .whole j lt e in f (w .0) (w .1) (w .2))
+          (λ (e : actAt s t l j .sends ≡ false). no-sender p _ e) (decided (actAt s t l j .sends))
 
       pub none-past : ((k : ℕ) → k < n → eqb (meet p (actAt s t l (getD xs k 0))) 0 ≡ false) → NoneReady s t l p i
       none-past f j lt = at-noted j lt (λ k m e. subst (λ (v : ℕ). eqb (meet p (actAt s t l v)) 0 ≡ false) e (f k m))
@@ -82,11 +83,11 @@ module _ (s : List ℕ) (t : Trailer) (l : List ℕ) where
 
   -- a thread that was read: its position is stored, and counted where it sends
   pub noted-more : (i : ℕ) (xs : List ℕ) (n : ℕ) → Noted s t l i xs n → (q : Act) → q ≡ actAt s t l i → i < length xs
-      → Noted s t l (i + 1) (set xs n i) (n + one (eqb (q .kind) 4))
+      → Noted s t l (i + 1) (set xs n i) (n + one (q .sends))
   unfolding one
   noted-more i xs n h q e room =
       let f = h .few in
       let stored = noted-store i xs n h i in
-      let kind : q .kind ≡ actAt s t l i .kind = ap (λ (a : Act). a .kind) e in
-      ⊎-elim (λ (y : eqb (q .kind) 4 ≡ true). rw y (noted-add i (set xs n i) n stored (getD-set-same xs n i 0 (omega arith))))
-      (λ (y : eqb (q .kind) 4 ≡ false). rw (y, add-zero n) (noted-skip i (set xs n i) n stored (λ k. eqb-false _ 4 y (kind ∙ k)))) (decided (eqb (q .kind) 4))
+      let same : actAt s t l i .sends ≡ q .sends = ap (λ (a : Act). a .sends) (sym e) in
+      ⊎-elim (λ (y : q .sends ≡ true). rw y (noted-add i (set xs n i) n stored (getD-set-same xs n i 0 (omega arith))))
+      (λ (y : q .sends ≡ false). rw (y, add-zero n) (noted-skip i (set xs n i) n stored (same ∙ y))) (decided (q .sends))

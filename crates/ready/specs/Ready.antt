@@ -3,15 +3,16 @@ use Prim.Native.Nat.{ℕ, _+_, _*_, _<_, _≤_}
 use mathlib.Core.Path.{_≡_}
 use mathlib.Core.Bool.{true, false, cond, not, _&&_}
 use mathlib.Core.List.{List, []}
-use lib.Dec.{eqb, leb}
+use lib.Dec.{eqb}
 use lib.ListN.{length, getD, drop}
 use Rattle.laws.specs.Search.{Found, clear, hit, test, first}
-use Rattle.model.specs.Tree.{Array, agentAt, receives}
+use Rattle.model.specs.Tree.{Array, nodeAt, isAgent, agentAt, receives}
 use Rattle.model.specs.Calculus.{Thread, Config, Choices, Attempt, Answer, refused, next, unless, onAgents, cell}
 use Rattle.model.specs.Numbers.{nobody}
-use Rattle.model.specs.Memory.{words, threadIn, try}
+use Rattle.model.specs.Memory.{words, threadIn, try, isOut}
 use Rattle.records.specs.declared.Trailer.{Trailer}
-use Rattle.records.specs.Record.{recordOf}
+use Rattle.records.specs.Record.{recordOf, nodeOf, arrayOf}
+use Rattle.records.specs.Kinds.{isReceiver}
 use Rattle.ready.specs.declared.Act.{Act}
 use Rattle.ready.specs.declared.Search.{Search}
 use Rattle.ready.specs.declared.Ready.{Ready}
@@ -36,10 +37,16 @@ meeting a r s =
 -- what a thread does, as its agent's record says
 abbrev pub actOf : List ℕ → Trailer → Thread ℕ ℕ → Act
 actOf s t x = record {
-  kind = recordOf s t (x .agent) .kind;
+  receives = isReceiver (nodeOf (recordOf s t (x .agent)));
+  sends = isOut (nodeOf (recordOf s t (x .agent)));
   arity = recordOf s t (x .agent) .arity;
   channel = getD (x .env) (recordOf s t (x .agent) .name) 0;
 }
+
+-- thread i lies in the list, and is an agent's
+pub record Acts (s : List ℕ) (t : Trailer) (l : List ℕ) (i : ℕ) : Type 0 where
+  pub inside : i * (2 + t .names) + (2 + t .names) ≤ length l
+  pub agent : isAgent (nodeAt (arrayOf s t) (getD l (i * (2 + t .names)) 0)) ≡ true
 
 -- thread i of a list of words
 abbrev pub actAt : List ℕ → Trailer → List ℕ → ℕ → Act
@@ -48,7 +55,7 @@ actAt s t l i = actOf s t (threadIn (t .names) (drop (i * (2 + t .names)) l))
 -- 25 to 27, or 0, by what the two threads do
 unfoldable pub meet : Act → Act → ℕ
 meet p q =
-    cond (leb 5 (p .kind) && eqb (q .kind) 4)
+    cond (p .receives && q .sends)
     (cond (eqb (p .arity) (q .arity)) (cond (not (eqb (p .channel) 0) && eqb (p .channel) (q .channel)) 0 27) 26) 25
 
 -- none of the first s threads is ready with receiver p
@@ -64,7 +71,7 @@ pub record Noted (file : List ℕ) (t : Trailer) (l : List ℕ) (i : ℕ) (xs : 
   pub few : n ≤ i
   pub below : (k : ℕ) → k < n → getD xs k 0 < i
   pub rising : (j k : ℕ) → j < k → k < n → getD xs j 0 < getD xs k 0
-  pub whole : (j : ℕ) → j < i → actAt file t l j .kind ≡ 4 → (k : ℕ) × (k < n) × (getD xs k 0 ≡ j)
+  pub whole : (j : ℕ) → j < i → actAt file t l j .sends ≡ true → (k : ℕ) × (k < n) × (getD xs k 0 ≡ j)
 
 -- the first sender, and what is noted after the search
 abbrev pub Searched : List ℕ → Trailer → List ℕ → ℕ → Act → List ℕ → Search → Type 0

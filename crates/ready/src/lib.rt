@@ -4,14 +4,13 @@ ghost use mathlib.Core.Path.{_≡_};
 ghost use mathlib.Core.Bool.{true};
 ghost use Prim.Native.Nat.{ℕ, _+_, _*_, _<_, _≤_};
 ghost use lib.ListN.{length, getD, drop};
-ghost use lib.Dec.{eqb};
 ghost use Rattle.laws.specs.Lists.{one};
 ghost use Rattle.model.specs.Tree.{nodeAt, isAgent};
 ghost use Rattle.model.specs.Calculus.{Choices};
 ghost use Rattle.model.specs.Memory.{threadIn, threadsIn};
 ghost use Rattle.records.specs.Record.{arrayOf};
 ghost use Rattle.arrays.specs.File.{IsRead};
-ghost use Rattle.ready.specs.Ready.{actOf, meet, NoneReady, FirstSender, Noted, Searched, meeting, firstMeeting, foundPair};
+ghost use Rattle.ready.specs.Ready.{Acts, actOf, meet, NoneReady, FirstSender, Noted, Searched, meeting, firstMeeting, foundPair};
 use records::Trailer;
 
 // The first pair of threads that is ready: receiver and sender.
@@ -20,9 +19,10 @@ pub enum Ready {
     At(usize, usize),
 }
 
-// What a thread does: the kind of its agent, the arity, and the word of its channel.
+// What a thread does: whether its agent receives or sends, the arity, and the word of its channel.
 struct Act {
-    kind: usize,
+    receives: bool,
+    sends: bool,
     arity: usize,
     channel: u32,
 }
@@ -40,9 +40,10 @@ fn act_at(file: &[u8], t: Trailer, threads: &[u32], at: usize) -> Act
     requires { ⌜ isAgent (nodeAt (arrayOf (now file) t) (getD (now threads) at 0)) ≡ true ⌝ }
     ensures { λ p. ⌜ p ≡ actOf (now (file .entry)) t (threadIn (t .names) (drop at (now (threads .entry)))) ⌝ }
 {
-    let r = records::record_at(file, t.start + 16 * wire::wide(threads[at]));
+    let r = records::node_at(file, t, wire::word_index(threads[at]));
     Act {
-        kind: r.kind,
+        receives: records::receives(r),
+        sends: records::sends(r),
         arity: r.arity,
         channel: threads[at + 2 + r.name],
     }
@@ -52,7 +53,7 @@ fn act_at(file: &[u8], t: Trailer, threads: &[u32], at: usize) -> Act
 fn meets(p: Act, q: Act) -> u8
     ensures { λ e. ⌜ e ≡ meet p q ⌝ }
 {
-    if !((5 <= p.kind) & (q.kind == 4)) {
+    if !(p.receives & q.sends) {
         return 25;
     }
     if p.arity != q.arity {
@@ -65,16 +66,8 @@ fn meets(p: Act, q: Act) -> u8
 }
 
 // 25 to 27, or 0 where threads r and s are ready as receiver and sender.
-pub fn pair_refusal(
-    file: &[u8],
-    t: Trailer,
-    threads: &[u32],
-    count: usize,
-    r: usize,
-    s: usize,
-) -> u8
-    requires { ⌜ IsRead (now file) t × (count ≤ 256) × (count * (2 + t .names) ≤ length (now threads)) × (r < count) × (s < count) ⌝ }
-    requires { ⌜ ((i : ℕ) → i < count → isAgent (nodeAt (arrayOf (now file) t) (getD (now threads) (i * (2 + t .names)) 0)) ≡ true) ⌝ }
+pub fn pair_refusal(file: &[u8], t: Trailer, threads: &[u32], r: usize, s: usize) -> u8
+    requires { ⌜ IsRead (now file) t × Acts (now file) t (now threads) r × Acts (now file) t (now threads) s ⌝ }
     ensures { λ e. ⌜ e ≡ meeting (arrayOf (now (file .entry)) t) (threadIn (t .names) (drop (r * (2 + t .names)) (now (threads .entry))))
         (threadIn (t .names) (drop (s * (2 + t .names)) (now (threads .entry)))) ⌝ }
 {
@@ -87,9 +80,9 @@ pub fn pair_refusal(
 // How many senders are noted, thread q with them.
 fn count_out(noted: usize, q: Act) -> usize
     requires { ⌜ noted < 256 ⌝ }
-    ensures { λ n. ⌜ n ≡ noted + one (eqb (q .kind) 4) ⌝ }
+    ensures { λ n. ⌜ n ≡ noted + one (q .sends) ⌝ }
 {
-    if q.kind == 4 {
+    if q.sends {
         return noted + 1;
     }
     noted
@@ -113,7 +106,7 @@ fn first_noted(
     let width = 2 + t.names;
     let mut k: usize = 0;
     while k < noted {
-        let s = records::wide(outs[k]);
+        let s = wire::byte_index(outs[k]);
         let q = act_at(file, t, threads, s * width);
         if meets(p, q) == 0 {
             return s;
@@ -179,7 +172,7 @@ fn first_sender(
     requires { ⌜ (seen ≤ count) × Noted (now file) t (now threads) seen (now outs) noted ⌝ }
     ensures { λ f. ⌜ Searched (now (file .entry)) t (now (threads .entry)) count p (now (outs .exit)) f ⌝ }
 {
-    if p.kind < 5 {
+    if !p.receives {
         return Search {
             sender: count,
             noted,

@@ -1,8 +1,8 @@
 -- Refusals checked one after another: a check that refuses ends the search, one that passes lets it go on.
 use Prim.Native.Nat.{ℕ}
-use mathlib.Core.Path.{_≡_, refl, sym, ap, _∙_}
+use mathlib.Core.Path.{_≡_, sym, ap, _∙_}
 use mathlib.Core.Bool.{Bool, true, false}
-use Rattle.laws.specs.Search.{Found, clear, hit, andThen}
+use Rattle.laws.specs.Search.{Found, clear, andThen}
 use Rattle.laws.proofs.Search.{clear-test, hit-test, clear-andThen, hit-andThen}
 use Rattle.model.specs.Formed as F
 use Rattle.model.specs.Formed.{refuse}
@@ -22,7 +22,8 @@ passes x e p = sym e ∙ ap foundOf p
 
 -- ---- a refusal that names no place, by its test
 
-pub fails : (n : ℕ) (b : Bool) (g : Found F.Refusal) (x : Check) → x ≡ Refused record { number = n; place = 0 } → b ≡ false → foundOf x ≡ andThen (refuse n 0 b) g
+pub fails : (n : ℕ) (b : Bool) (g : Found F.Refusal) (x : Check) → x ≡ Refused record { number = n; place = 0 } → b ≡ false
+    → foundOf x ≡ andThen (refuse n 0 b) g
 fails n b g x e f = ap foundOf e ∙ sym (hit-andThen (refuse n 0 b) g _ (hit-test b _ f))
 
 pub holds : (n : ℕ) (b : Bool) (g : Found F.Refusal) {y : Found F.Refusal} → b ≡ true → y ≡ g → y ≡ andThen (refuse n 0 b) g

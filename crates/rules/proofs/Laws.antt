@@ -1,140 +1,47 @@
--- The tests of rules 1, 2 and 5 by the checker's own lists, searched in order, are the model's searches.
+-- The rules by the checker's own lists are the model's, and the lists that are filled from two files that were read stand for their table.
 use Prim.Native.Nat.{ℕ, _+_, _*_, _<_}
-use native.Mathlib.Nat.{zero-add}
+use native.Mathlib.Nat.{le-of-suc-le-suc}
 use native.Mathlib.Numerals.{add-one}
 use native.Mathlib.Omega.{arith}
-use mathlib.Core.Path.{_≡_, refl, sym, ap, ap₂, _∙_}
-use mathlib.Core.Bool.{Bool, true, false, not, _||_, false≢true, true≢false}
+use mathlib.Core.Path.{_≡_, refl, sym, ap, _∙_}
+use mathlib.Core.Bool.{Bool, true, false, false≢true, true≢false}
 use mathlib.Core.List.{List, [], _∷_}
-use lib.Dec.{leb, ltb}
-use lib.ListN.{getD}
-use borrow.Author.Tests.{ltb-true, leb-true}
-use Rattle.laws.specs.Search.{clear, hit, test, andThen, first}
+use lib.Dec.{leb}
+use lib.ListN.{length, getD}
+use borrow.Author.Tests.{ltb-true}
+use Rattle.laws.specs.Search.{clear, hit, test, andThen}
 use Rattle.laws.proofs.Search.{and-split, test-clear, clear-test, hit-test, first-pass, first-here, first-clear, first-same, clear-andThen, hit-andThen}
+use Rattle.wire.specs.Numbers.{u32At}
+use Rattle.wire.proofs.Laws.{u16-small}
 use Rattle.marks.specs.Marks.{marked}
-use Rattle.model.specs.Tree.{Array, nodeAt, isAgent, isNew}
-use Rattle.model.specs.Rules.{Table, Broken, Verdict, at, check1, check2, arguments3, check3, balances4, check4, check5, balanceOf, claimWeight}
+use Rattle.model.specs.Tree.{Array, Node, nodeAt, isAgent}
+use Rattle.model.specs.Nodes.{loadOf}
+use Rattle.model.specs.Formed.{WellFormed}
+use Rattle.model.specs.Rules.{Table, Broken, Verdict, at, check1, check2, arguments3, check3, balances4, check4, check5, verdict}
 use Rattle.model.proofs.Tree.{agent-inside}
+use Rattle.model.proofs.Nodes.{load-at}
 use Rattle.records.specs.declared.Trailer.{Trailer}
-use Rattle.records.specs.Record.{recordOf, arrayOf}
-use Rattle.records.proofs.Laws.{agent-kind, node-of}
+use Rattle.records.specs.Record.{arrayOf}
+use Rattle.arrays.specs.File.{IsRead}
 use Rattle.layout.specs.declared.Sizes.{Sizes}
-use Rattle.layout.specs.Table.{claimAt, tableOf, refusal21}
-use Rattle.pairs.specs.declared.Pair.the-variants.{At}
-use Rattle.arrays.specs.Agents.{Reads}
-use Rattle.pairs.specs.Pairs.{Ready, atPair, pairsOf, pairSays}
-use Rattle.pairs.proofs.Laws.{weight-is}
+use Rattle.layout.specs.Table.{balanceAt, claimAt, rowBit, tableOf, refusal21, IsTable}
+use Rattle.loads.specs.Loads.{loadIn, AllLoads}
+use Rattle.loads.proofs.Laws.{half-load}
+use Rattle.pairs.specs.declared.Place.the-variants.{At}
+use Rattle.pairs.specs.Pairs.{listed, Weighed, atPair, pairsOf, placed}
 use Rattle.rules.specs.declared.Ruling.{Ruling}
 use Rattle.rules.specs.declared.Ruling.the-variants.{Held, Rule1, Rule2, Rule3, Rule4, Rule5}
-use Rattle.rules.specs.Ruling.{ruled, isHeld, claimHolds, ClaimListed}
+use Rattle.rules.specs.Ruling.{ruled, isHeld, ruleBelow, ownMarked, rootFits, claimHolds, ClaimsListed, Listed, claimed}
+use Rattle.rules.proofs.Alike.{Alike, load-alike, check3-alike, check4-alike, verdict-alike}
 
--- ---- the searches
+-- ---- a loop passes place k, or stops there
 
--- rule r, whose place is k, by its test there
-abbrev pub ruleAt : ℕ → (ℕ → Bool) → ℕ → Verdict
-ruleAt r holds k = test (holds k) (at r (k ∷ []))
+module _ (r : ℕ) (p : ℕ → Bool) (k : ℕ) (e : ruleBelow k r p ≡ clear) where
+  pub rule-passes : p k ≡ true → ruleBelow (k + 1) r p ≡ clear
+  rule-passes h = first-pass _ k e (clear-test _ _ h)
 
-same-rule : (r n : ℕ) (p q : ℕ → Bool) → ((k : ℕ) → k < n → p k ≡ q k) → first n (ruleAt r p) ≡ first n (ruleAt r q)
-same-rule r n p q e = first-same n (ruleAt r p) (ruleAt r q) (λ k h. ap (λ (b : Bool). test b (at r (k ∷ []))) (e k h))
-
--- a loop passes place k, or stops there
-module _ (r : ℕ) (p : ℕ → Bool) (k : ℕ) (e : first k (ruleAt r p) ≡ clear) where
-  pub rule-passes : p k ≡ true → first (k + 1) (ruleAt r p) ≡ clear
-  rule-passes h = first-pass (ruleAt r p) k e (clear-test _ _ h)
-
-  pub rule-stops : (n : ℕ) → k < n → p k ≡ false → first n (ruleAt r p) ≡ hit (at r (k ∷ []))
-  rule-stops n l h = first-here (ruleAt r p) k n _ e (hit-test _ _ h) l
-
--- name o is no name that a new opens, or its row has its own bit
-abbrev pub ownMarked : List ℕ → List ℕ → ℕ → Bool
-ownMarked news rows o = not (marked news 0 o) || marked rows (4 * o) o
-
--- the load of node 0 in balance k is within the bound
-abbrev pub rootFits : List ℕ → List ℕ → ℕ → Bool
-rootFits loads bounds k = leb (getD loads k 0) (getD bounds k 0)
-
--- claim c holds, where the claims start at `start`
-abbrev pub claimFollows : List ℕ → List ℕ → List ℕ → ℕ → ℕ → Bool
-claimFollows s loads bounds start c = claimHolds s loads bounds (start + 8 * c)
-
-module _ (f : List ℕ) (t : Trailer) (s : List ℕ) (z : Sizes) (rows loads bounds : List ℕ) (ready : Ready f t s z rows loads bounds) where
-  abbrev a : Array
-  a = arrayOf f t
-
-  abbrev T : Table
-  T = tableOf s z
-
-  pub rule1-is : (news : List ℕ) → ((o : ℕ) → marked news 0 o ≡ isNew a o) → first (z .names) (ruleAt 1 (ownMarked news rows)) ≡ check1 a T
-  unfolding check1
-  rule1-is news opened =
-      let e = ready .table .laid .names in
-      let few = ready .array .formed .fewNames in
-      same-rule 1 (z .names) (ownMarked news rows) (λ o. not (isNew a o) || T .row o o)
-      (λ o h. ap₂ (λ (x y : Bool). not x || y) (opened o) (ready .marks o o h (omega arith)))
-      ∙ ap (λ (n : ℕ). first n (ruleAt 1 (λ o. not (isNew a o) || T .row o o))) e
-
-  pub rule2-is : first (z .balances) (ruleAt 2 (rootFits loads bounds)) ≡ check2 a T
-  unfolding check2
-  rule2-is =
-      same-rule 2 (z .balances) (rootFits loads bounds) _
-      (λ k h. ap₂ leb (ap (λ (n : ℕ). getD loads n 0) (sym (zero-add k)) ∙ ready .weighs 0 k (ready .array .formed .some) h) (ready .bears k h))
-
-  -- ---- claims: an agent node, and a balance of the table
-
-  module _ (c : ℕ) (h : c < z .claims) where
-    abbrev agent : ℕ
-    agent = T .claim c .agent
-
-    abbrev balance : ℕ
-    balance = T .claim c .balance
-
-    fits : (isAgent (nodeAt a agent) ≡ true) × (ltb balance (z .balances) ≡ true)
-    unfolding refusal21
-    fits = and-split _ _ (and-split _ _ (test-clear _ _ (first-clear (z .claims) _ (ready .table .claims) c h)) .0)
-
-    balance-below : balance < z .balances
-    balance-below = ltb-true balance (z .balances) (fits .1)
-
-    agent-below : agent < t .nodes
-    agent-below = agent-inside a agent (fits .0)
-
-    pub claim-listed : ClaimListed s loads bounds (claimAt z c)
-    claim-listed =
-        let l = balance-below in
-        let b = agent-below in
-        let few = ready .table .laid .fewBalances in
-        let many = ready .array .formed .fewNodes in
-        record {
-          inside = omega (arith, ready .table .laid .fills);
-          bound = omega (arith, ready .manyBounds);
-          weight = omega (arith, ready .manyLoads);
-        }
-
-    claim-is : claimHolds s loads bounds (claimAt z c) ≡ ltb (balanceOf T c .bound) (claimWeight T c)
-    claim-is =
-        let kind = leb-true _ _ (agent-kind (recordOf f t agent) ∙ (rw (← node-of f t agent agent-below) (fits .0))) in
-        let h : Reads f t agent (recordOf f t agent) = record { below = agent-below; is = refl } in
-        ap₂ (λ (x y : ℕ). ltb x (y * (T .claim c .most + 1))) (ready .bears balance balance-below) (weight-is ready h kind balance balance-below)
-
-  pub rule5-is : (start : ℕ) → start ≡ claimAt z 0 → first (z .claims) (ruleAt 5 (claimFollows s loads bounds start)) ≡ check5 a T
-  unfolding check5
-  rule5-is start e =
-      same-rule 5 (z .claims) (claimFollows s loads bounds start) _
-      (λ c h. let p : start + 8 * c ≡ claimAt z c = omega arith in ap (claimHolds s loads bounds) p ∙ claim-is c h)
-
--- ---- rules 3 and 4 are the searches over pairs
-
-pub pairs-3 : (a : Array) (t : Table) → pairsOf 3 a t ≡ check3 a t
-unfolding check3 arguments3 atPair
-pairs-3 a t = refl
-
-pub pairs-4 : (a : Array) (t : Table) → pairsOf 4 a t ≡ check4 a t
-unfolding check4 balances4 atPair
-pairs-4 a t = refl
-
--- a pair's place by rule 3 counts its argument from 1
-pub place-3 : (p q n : ℕ) → ruled (Rule3 p q (n + 1)) ≡ pairSays 3 (At p q n)
-place-3 p q n = ap (λ (k : ℕ). hit (at 3 (p ∷ q ∷ k ∷ []))) (add-one n)
+  pub rule-stops : (n : ℕ) → k < n → p k ≡ false → ruleBelow n r p ≡ hit (at r (k ∷ []))
+  rule-stops n l h = first-here _ k n _ e (hit-test _ _ h) l
 
 -- ---- one rule after another
 
@@ -160,3 +67,126 @@ goes-on f g x e h q = q ∙ sym (clear-andThen f g (sym e ∙ held x h))
     held (Rule3 p q o) h = absurd (false≢true h)
     held (Rule4 p q o) h = absurd (false≢true h)
     held (Rule5 o) h = absurd (false≢true h)
+
+-- ---- rules 3 and 4 are the searches over pairs
+
+pub pairs-three : (a : Array) (t : Table) → pairsOf 3 a t ≡ check3 a t
+unfolding check3 arguments3 atPair
+pairs-three a t = refl
+
+pub pairs-four : (a : Array) (t : Table) → pairsOf 4 a t ≡ check4 a t
+unfolding check4 balances4 atPair
+pairs-four a t = refl
+
+-- a pair's place by rule 3 counts its argument from 1
+pub place-three : (p q n : ℕ) → ruled (Rule3 p q (n + 1)) ≡ placed 3 (At p q n)
+place-three p q n = ap (λ (k : ℕ). hit (at 3 (p ∷ q ∷ k ∷ []))) (add-one n)
+
+-- ---- over the table that the lists and the claims of the file stand for
+
+module _ {f : List ℕ} {t : Trailer} {s : List ℕ} {z : Sizes} {rows loads bounds : List ℕ} (all : Listed f t s z rows loads bounds) where
+  abbrev a : Array
+  a = arrayOf f t
+
+  abbrev L : Table
+  L = listed rows loads bounds (z .balances)
+
+  -- rows and balances are the lists'
+  same : Alike a L (claimed L s z)
+  same = record { rows = λ v o h l. refl; many = refl; bounds = λ k h. refl; weights = λ k i h e. refl }
+
+  pub rule-one : ruleBelow (t .names) 1 (ownMarked a rows) ≡ check1 a (claimed L s z)
+  unfolding check1
+  rule-one = refl
+
+  pub rule-two : ruleBelow (z .balances) 2 (rootFits loads bounds) ≡ check2 a (claimed L s z)
+  unfolding check2
+  rule-two =
+      first-same (z .balances) _ _ (λ k h.
+      ap (λ (x : ℕ). test (leb x (getD bounds k 0)) (at 2 (k ∷ []))) (all .weighed .weighs 0 k (all .read .formed .some) h))
+
+  pub rule-three : check3 a L ≡ check3 a (claimed L s z)
+  rule-three = check3-alike a (all .read .formed) L (claimed L s z) same
+
+  pub rule-four : check4 a L ≡ check4 a (claimed L s z)
+  rule-four = check4-alike a (all .read .formed) L (claimed L s z) same
+
+  pub rule-five : ruleBelow (z .claims) 5 (λ c. claimHolds s loads bounds (claimAt z c)) ≡ check5 a (claimed L s z)
+  unfolding check5
+  rule-five = refl
+
+-- ---- the lists of two files that were read
+
+agent-load : (w : ℕ → ℕ) (i : ℕ) (f : ℕ → ℕ) (v : Node) → isAgent v ≡ true → loadOf w i f v ≡ w i
+unfolding isAgent loadOf
+agent-load w i f Node.stop e = absurd (false≢true e)
+agent-load w i f (Node.new n l) e = absurd (false≢true e)
+agent-load w i f (Node.par l r) e = absurd (false≢true e)
+agent-load w i f (Node.choice l r) e = absurd (false≢true e)
+agent-load w i f (Node.agent s x ys l) e = refl
+
+module _ (f : List ℕ) (t : Trailer) (s : List ℕ) (z : Sizes) (read : IsRead f t) (table : IsTable f t s z) (bytes : (i : ℕ) → getD s i 0 < 256)
+    (rows loads bounds : List ℕ) (manyRows : length rows ≡ 1024) (manyLoads : length loads ≡ 24576) (manyBounds : length bounds ≡ 24)
+    (marks : (v o : ℕ) → v < z .names → o < 256 → marked rows (4 * v) o ≡ rowBit s z v o) (weighs : AllLoads loads (arrayOf f t) (tableOf s z))
+    (bears : (k : ℕ) → k < z .balances → getD bounds k 0 ≡ u32At s (balanceAt z k)) where
+  abbrev b : Array
+  b = arrayOf f t
+
+  abbrev T : Table
+  T = tableOf s z
+
+  ok : WellFormed b
+  ok = read .formed
+
+  -- the entry of an agent is its weight
+  weight-is : (k i : ℕ) → k < z .balances → isAgent (nodeAt b i) ≡ true → loadIn loads i k ≡ (T .balance k) .weight i
+  weight-is k i h e =
+      let l = agent-inside b i e in
+      weighs i k l h ∙ load-at b (ok .children) i l ((T .balance k) .weight) ∙ agent-load ((T .balance k) .weight) i _ (nodeAt b i) e
+
+  weighed : Weighed loads b (z .balances)
+  weighed = record {
+    half = λ i h k l.
+        let few = table .laid .fewBalances in
+        half-load b ok ((T .balance k) .weight) (λ j. le-of-suc-le-suc (u16-small s bytes _)) loads manyLoads i k h (omega arith) (weighs i k h l);
+    weighs = λ i k h l. weighs i k h l ∙ load-alike b ok _ _ (λ j e. sym (weight-is k j l e)) i h;
+  }
+
+  -- a claim names an agent and a balance
+  named : (c : ℕ) → c < z .claims → (isAgent (nodeAt b (T .claim c .agent)) ≡ true) × (T .claim c .balance < z .balances)
+  unfolding refusal21
+  named c h =
+      let p = and-split _ _ (and-split _ _ (test-clear _ _ (first-clear (z .claims) _ (table .claims) c h)) .0) in
+      (p .0, ltb-true _ (z .balances) (p .1))
+
+  claims : ClaimsListed s z loads bounds
+  claims =
+      let l = table .laid in
+      record {
+        nodes = omega (arith, l .nodes, ok .fewNodes);
+        names = omega (arith, l .names, ok .fewNames);
+        balances = l .fewBalances;
+        few = l .fewClaims;
+        listed = λ c h.
+            let n = named c h in
+            record {
+              inside = omega (arith, l .fills);
+              bound = omega (arith, n .1, l .fewBalances, manyBounds);
+              weight = weighed .half _ (agent-inside b _ (n .0)) _ (n .1);
+            };
+      }
+
+  pub filled : Listed f t s z rows loads bounds
+  filled = record {
+    read = read;
+    lists = record { few = table .laid .fewBalances; manyRows = manyRows; manyBounds = manyBounds };
+    weighed = weighed;
+    claims = claims;
+  }
+
+  -- the verdict over the lists is that over the table of the bytes
+  pub judged : verdict b (claimed (listed rows loads bounds (z .balances)) s z) ≡ verdict b T
+  judged =
+      verdict-alike b ok _ T
+      record { rows = λ v o h. marks v o (rw (table .laid .names) h); many = refl; bounds = bears; weights = weight-is }
+      record { many = refl; same = λ c h. refl; agents = λ c h. named c h .0; balances = λ c h. named c h .1 }

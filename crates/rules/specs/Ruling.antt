@@ -1,13 +1,21 @@
--- What the checker's rules answer: 01's number and place figures for each case. A claim, by the checker's own lists.
-use Prim.Native.Nat.{ℕ, _+_, _*_, _<_}
-use mathlib.Core.Bool.{Bool, true, false}
+-- What the checker's rules answer: 01's number and place figures for each case. Rules 1, 2 and 5 by the checker's own lists.
+use Prim.Native.Nat.{ℕ, _+_, _*_, _≤_, _<_}
+use mathlib.Core.Bool.{Bool, true, false, not, _||_}
 use mathlib.Core.List.{List, [], _∷_}
-use lib.Dec.{ltb}
+use lib.Dec.{leb, ltb}
 use lib.ListN.{length, getD}
-use Rattle.laws.specs.Search.{clear, hit, andThen}
+use Rattle.laws.specs.Search.{clear, hit, test, andThen, first}
 use Rattle.wire.specs.Numbers.{u16At}
-use Rattle.model.specs.Tree.{Array}
+use Rattle.marks.specs.Marks.{marked}
+use Rattle.model.specs.Tree.{Array, isNew}
 use Rattle.model.specs.Rules.{Table, Verdict, at, check3, check4, check5}
+use Rattle.records.specs.declared.Trailer.{Trailer}
+use Rattle.records.specs.Record.{arrayOf}
+use Rattle.arrays.specs.File.{IsRead}
+use Rattle.layout.specs.declared.Sizes.{Sizes}
+use Rattle.layout.specs.Table.{claimAt, tableOf}
+use Rattle.loads.specs.Loads.{loadIn, Half}
+use Rattle.pairs.specs.Pairs.{Lists, Weighed}
 use Rattle.rules.specs.declared.Ruling.{Ruling}
 use Rattle.rules.specs.declared.Ruling.the-variants.{Held, Rule1, Rule2, Rule3, Rule4, Rule5}
 
@@ -31,13 +39,46 @@ isHeld (Rule5 c) = false
 abbrev pub from3 : Array → Table → Verdict
 from3 a t = andThen (check3 a t) (andThen (check4 a t) (check5 a t))
 
+-- ---- rules 1, 2 and 5 by the lists
+
+-- a rule whose place is one number below n, by its test there
+abbrev pub ruleBelow : ℕ → ℕ → (ℕ → Bool) → Verdict
+ruleBelow n r holds = first n (λ k. test (holds k) (at r (k ∷ [])))
+
+-- name o is no name that a new opens, or its row has its own mark
+abbrev pub ownMarked : Array → List ℕ → ℕ → Bool
+ownMarked a rows o = not (isNew a o) || marked rows (4 * o) o
+
+-- the load of node 0 in balance k is within the bound
+abbrev pub rootFits : List ℕ → List ℕ → ℕ → Bool
+rootFits loads bounds k = leb (loadIn loads 0 k) (getD bounds k 0)
+
 -- the weight × (most + 1) of the claim at `at` exceeds the bound of its balance
 abbrev pub claimHolds : List ℕ → List ℕ → List ℕ → ℕ → Bool
 claimHolds s loads bounds at =
-    ltb (getD bounds (u16At s (at + 4)) 0) (getD loads (24 * u16At s at + u16At s (at + 4)) 0 * (u16At s (at + 2) + 1))
+    ltb (getD bounds (u16At s (at + 4)) 0) (loadIn loads (u16At s at) (u16At s (at + 4)) * (u16At s (at + 2) + 1))
 
 -- the claim lies in the table, and its balance and its agent have entries in the lists
 pub record ClaimListed (s loads bounds : List ℕ) (at : ℕ) : Type 0 where
   pub inside : at + 5 < length s
   pub bound : u16At s (at + 4) < length bounds
-  pub weight : 24 * u16At s at + u16At s (at + 4) < length loads
+  pub weight : Half loads (u16At s at) (u16At s (at + 4))
+
+pub record ClaimsListed (s : List ℕ) (z : Sizes) (loads bounds : List ℕ) : Type 0 where
+  pub nodes : z .nodes ≤ 1024
+  pub names : z .names ≤ 256
+  pub balances : z .balances ≤ 24
+  pub few : z .claims ≤ 256
+  pub listed : (c : ℕ) → c < z .claims → ClaimListed s loads bounds (claimAt z c)
+
+-- ---- all rules: over a file that was read, lists that stand for a table, and the claims of a table file
+
+pub record Listed (f : List ℕ) (t : Trailer) (s : List ℕ) (z : Sizes) (rows loads bounds : List ℕ) : Type 0 where
+  pub read : IsRead f t
+  pub lists : Lists (z .balances) rows bounds
+  pub weighed : Weighed loads (arrayOf f t) (z .balances)
+  pub claims : ClaimsListed s z loads bounds
+
+-- a table with the claims of the file
+abbrev pub claimed : Table → List ℕ → Sizes → Table
+claimed t s z = record { row = t .row; balances = t .balances; balance = t .balance; claims = z .claims; claim = tableOf s z .claim }

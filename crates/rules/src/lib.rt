@@ -1,19 +1,19 @@
 // The five rules in number order, over an array file and a table file that were read.
 // Promises the model's verdict over the array and the table that the bytes stand for. Depends on pairs (rules 3 and 4), flows
 // and loads (the checker's own lists), layout, frees (the names that news open), arrays, records, marks, wire, model and laws.
-// The lists take 106,600 bytes of stack.
+// The lists take 106,592 bytes of stack.
 ghost use mathlib.Core.Path.{_≡_};
 ghost use Prim.Native.Nat.{ℕ, _<_, _≤_};
 ghost use lib.ListN.{length, getD};
 ghost use Rattle.model.specs.Rules as M;
-ghost use Rattle.records.specs.Record.{arrayOf};
+ghost use Rattle.records.specs.Record.{arrayOf, RecordsFit};
 ghost use Rattle.arrays.specs.File.{IsRead};
 ghost use Rattle.wire.specs.Numbers.{u32At};
-ghost use Rattle.layout.specs.Table.{balanceAt, tableOf, IsTable, Laid};
-ghost use Rattle.pairs.specs.Pairs.{Ready};
-ghost use Rattle.rules.specs.Ruling.{ruled, isHeld, claimHolds, ClaimListed, from3};
+ghost use Rattle.layout.specs.Table.{balanceAt, claimAt, tableOf, IsTable};
+ghost use Rattle.pairs.specs.Pairs.{listed, Lists, HalfRow, Weighed};
+ghost use Rattle.rules.specs.Ruling.{ruled, isHeld, from3, ruleBelow, ownMarked, rootFits, claimHolds, ClaimListed, ClaimsListed, Listed, claimed};
 use layout::Sizes;
-use pairs::Pair;
+use pairs::Place;
 use records::Trailer;
 
 // The first broken rule with its place figures, or that none is broken. An argument counts from 1, as 01 has it.
@@ -27,38 +27,25 @@ pub enum Ruling {
 }
 
 // The bounds of all balances.
-fn all_bounds(t: Trailer, table: &[u8], z: Sizes) -> [u32; 24]
-    requires { ⌜ (t .nodes ≤ 1024) × (t .names ≤ 256) × Laid t (now table) z ⌝ }
-    ensures { λ bounds. ⌜ ((k : ℕ) → k < z .balances → getD bounds k 0 ≡ u32At (now (table .entry)) (balanceAt z k)) ⌝ }
+fn all_bounds(bounds: &mut [u32], table: &[u8], z: Sizes)
+    requires { ⌜ (z .nodes ≤ 1024) × (z .names ≤ 256) × (z .balances ≤ 24) × (claimAt z 0 ≤ length (now table)) × (length (now bounds) ≡ 24) ⌝ }
+    ensures { λ _. ⌜ ((k : ℕ) → k < z .balances → getD (now (bounds .exit)) k 0 ≡ u32At (now (table .entry)) (balanceAt z k)) ⌝ }
 {
-    let mut bounds = [0u32; 24];
-    let size = layout::balance_size(z);
-    let mut at = 32 * z.names;
     let mut k: usize = 0;
     while k < z.balances {
-        bounds[k] = wire::u32_at(table, at);
-        at += size;
+        bounds[k] = wire::u32_at(table, layout::balance_at(z, k));
         k += 1;
     }
-    bounds
 }
 
 // Rule 1.
-fn rule1(
-    file: &[u8],
-    t: Trailer,
-    table: &[u8],
-    z: Sizes,
-    rows: &[u64],
-    loads: &[u32],
-    bounds: &[u32],
-) -> Ruling
-    requires { ⌜ Ready (now file) t (now table) z (now rows) (now loads) (now bounds) ⌝ }
-    ensures { λ r. ⌜ ruled r ≡ M.check1 (arrayOf (now (file .entry)) t) (tableOf (now (table .entry)) z) ⌝ }
+fn first_rule(file: &[u8], t: Trailer, rows: &[u64]) -> Ruling
+    requires { ⌜ RecordsFit (now file) t × (t .names ≤ 256) × (length (now rows) ≡ 1024) ⌝ }
+    ensures { λ r. ⌜ ruled r ≡ ruleBelow (t .names) 1 (ownMarked (arrayOf (now (file .entry)) t) (now (rows .entry))) ⌝ }
 {
     let news = frees::opened(file, t);
     let mut o: usize = 0;
-    while o < z.names {
+    while o < t.names {
         let opened = marks::is_marked(&news, 0, o);
         let own = marks::is_marked(rows, 4 * o, o);
         if !(!opened | own) {
@@ -69,22 +56,14 @@ fn rule1(
     Ruling::Held
 }
 
-// Rule 2: the loads of node 0 are the first of the list.
-fn rule2(
-    file: &[u8],
-    t: Trailer,
-    table: &[u8],
-    z: Sizes,
-    rows: &[u64],
-    loads: &[u32],
-    bounds: &[u32],
-) -> Ruling
-    requires { ⌜ Ready (now file) t (now table) z (now rows) (now loads) (now bounds) ⌝ }
-    ensures { λ r. ⌜ ruled r ≡ M.check2 (arrayOf (now (file .entry)) t) (tableOf (now (table .entry)) z) ⌝ }
+// Rule 2.
+fn second_rule(balances: usize, loads: &[u32], bounds: &[u32]) -> Ruling
+    requires { ⌜ (balances ≤ length (now bounds)) × HalfRow (now loads) balances 0 ⌝ }
+    ensures { λ r. ⌜ ruled r ≡ ruleBelow balances 2 (rootFits (now (loads .entry)) (now (bounds .entry))) ⌝ }
 {
     let mut k: usize = 0;
-    while k < z.balances {
-        if !(loads[k] <= bounds[k]) {
+    while k < balances {
+        if !(loads::load_at(loads, 0, k) <= bounds[k]) {
             return Ruling::Rule2(k);
         }
         k += 1;
@@ -93,40 +72,38 @@ fn rule2(
 }
 
 // Rule 3.
-fn rule3(
+fn third_rule(
     file: &[u8],
     t: Trailer,
-    table: &[u8],
-    z: Sizes,
+    balances: usize,
     rows: &[u64],
     loads: &[u32],
     bounds: &[u32],
 ) -> Ruling
-    requires { ⌜ Ready (now file) t (now table) z (now rows) (now loads) (now bounds) ⌝ }
-    ensures { λ r. ⌜ ruled r ≡ M.check3 (arrayOf (now (file .entry)) t) (tableOf (now (table .entry)) z) ⌝ }
+    requires { ⌜ IsRead (now file) t × Lists balances (now rows) (now bounds) × Weighed (now loads) (arrayOf (now file) t) balances ⌝ }
+    ensures { λ r. ⌜ ruled r ≡ M.check3 (arrayOf (now (file .entry)) t) (listed (now (rows .entry)) (now (loads .entry)) (now (bounds .entry)) balances) ⌝ }
 {
-    match pairs::first_pair(3, file, t, table, z, rows, loads, bounds) {
-        Pair::Nowhere => Ruling::Held,
-        Pair::At(p, q, n) => Ruling::Rule3(p, q, n + 1),
+    match pairs::first_pair(3, file, t, balances, rows, loads, bounds) {
+        Place::Nowhere => Ruling::Held,
+        Place::At(p, q, n) => Ruling::Rule3(p, q, n + 1),
     }
 }
 
 // Rule 4.
-fn rule4(
+fn fourth_rule(
     file: &[u8],
     t: Trailer,
-    table: &[u8],
-    z: Sizes,
+    balances: usize,
     rows: &[u64],
     loads: &[u32],
     bounds: &[u32],
 ) -> Ruling
-    requires { ⌜ Ready (now file) t (now table) z (now rows) (now loads) (now bounds) ⌝ }
-    ensures { λ r. ⌜ ruled r ≡ M.check4 (arrayOf (now (file .entry)) t) (tableOf (now (table .entry)) z) ⌝ }
+    requires { ⌜ IsRead (now file) t × Lists balances (now rows) (now bounds) × Weighed (now loads) (arrayOf (now file) t) balances ⌝ }
+    ensures { λ r. ⌜ ruled r ≡ M.check4 (arrayOf (now (file .entry)) t) (listed (now (rows .entry)) (now (loads .entry)) (now (bounds .entry)) balances) ⌝ }
 {
-    match pairs::first_pair(4, file, t, table, z, rows, loads, bounds) {
-        Pair::Nowhere => Ruling::Held,
-        Pair::At(p, q, n) => Ruling::Rule4(p, q, n),
+    match pairs::first_pair(4, file, t, balances, rows, loads, bounds) {
+        Place::Nowhere => Ruling::Held,
+        Place::At(p, q, n) => Ruling::Rule4(p, q, n),
     }
 }
 
@@ -138,26 +115,18 @@ fn claim_holds(table: &[u8], loads: &[u32], bounds: &[u32], at: usize) -> bool
     let agent = wire::u16_at(table, at);
     let most = wire::u16_at(table, at + 2);
     let balance = wire::u16_at(table, at + 4);
-    wire::wide64(bounds[balance]) < wire::wide64(loads[24 * agent + balance]) * (most as u64 + 1)
+    let weight = wire::word_long(loads::load_at(loads, agent, balance));
+    wire::word_long(bounds[balance]) < weight * (most as u64 + 1)
 }
 
 // Rule 5.
-fn rule5(
-    file: &[u8],
-    t: Trailer,
-    table: &[u8],
-    z: Sizes,
-    rows: &[u64],
-    loads: &[u32],
-    bounds: &[u32],
-) -> Ruling
-    requires { ⌜ Ready (now file) t (now table) z (now rows) (now loads) (now bounds) ⌝ }
-    ensures { λ r. ⌜ ruled r ≡ M.check5 (arrayOf (now (file .entry)) t) (tableOf (now (table .entry)) z) ⌝ }
+fn fifth_rule(table: &[u8], z: Sizes, loads: &[u32], bounds: &[u32]) -> Ruling
+    requires { ⌜ ClaimsListed (now table) z (now loads) (now bounds) ⌝ }
+    ensures { λ r. ⌜ ruled r ≡ ruleBelow (z .claims) 5 (λ c. claimHolds (now (table .entry)) (now (loads .entry)) (now (bounds .entry)) (claimAt z c)) ⌝ }
 {
-    let start = layout::claims_at(z);
     let mut c: usize = 0;
     while c < z.claims {
-        if !claim_holds(table, loads, bounds, start + 8 * c) {
+        if !claim_holds(table, loads, bounds, layout::claim_at(z, c)) {
             return Ruling::Rule5(c);
         }
         c += 1;
@@ -188,21 +157,22 @@ fn later_rules(
     loads: &[u32],
     bounds: &[u32],
 ) -> Ruling
-    requires { ⌜ Ready (now file) t (now table) z (now rows) (now loads) (now bounds) ⌝ }
-    ensures { λ r. ⌜ ruled r ≡ from3 (arrayOf (now (file .entry)) t) (tableOf (now (table .entry)) z) ⌝ }
+    requires { ⌜ Listed (now file) t (now table) z (now rows) (now loads) (now bounds) ⌝ }
+    ensures { λ r. ⌜ ruled r ≡ from3 (arrayOf (now (file .entry)) t)
+        (claimed (listed (now (rows .entry)) (now (loads .entry)) (now (bounds .entry)) (z .balances)) (now (table .entry)) z) ⌝ }
 {
-    let third = rule3(file, t, table, z, rows, loads, bounds);
+    let third = third_rule(file, t, z.balances, rows, loads, bounds);
     if !is_held(third) {
         return third;
     }
-    let fourth = rule4(file, t, table, z, rows, loads, bounds);
+    let fourth = fourth_rule(file, t, z.balances, rows, loads, bounds);
     if !is_held(fourth) {
         return fourth;
     }
-    rule5(file, t, table, z, rows, loads, bounds)
+    fifth_rule(table, z, loads, bounds)
 }
 
-// The five rules, over the checker's own lists.
+// The five rules, over the checker's own lists and the claims of the file.
 fn all_rules(
     file: &[u8],
     t: Trailer,
@@ -212,14 +182,15 @@ fn all_rules(
     loads: &[u32],
     bounds: &[u32],
 ) -> Ruling
-    requires { ⌜ Ready (now file) t (now table) z (now rows) (now loads) (now bounds) ⌝ }
-    ensures { λ r. ⌜ ruled r ≡ M.verdict (arrayOf (now (file .entry)) t) (tableOf (now (table .entry)) z) ⌝ }
+    requires { ⌜ Listed (now file) t (now table) z (now rows) (now loads) (now bounds) ⌝ }
+    ensures { λ r. ⌜ ruled r ≡ M.verdict (arrayOf (now (file .entry)) t)
+        (claimed (listed (now (rows .entry)) (now (loads .entry)) (now (bounds .entry)) (z .balances)) (now (table .entry)) z) ⌝ }
 {
-    let first = rule1(file, t, table, z, rows, loads, bounds);
+    let first = first_rule(file, t, rows);
     if !is_held(first) {
         return first;
     }
-    let second = rule2(file, t, table, z, rows, loads, bounds);
+    let second = second_rule(z.balances, loads, bounds);
     if !is_held(second) {
         return second;
     }
@@ -231,8 +202,11 @@ pub fn judge(file: &[u8], t: Trailer, table: &[u8], z: Sizes) -> Ruling
     requires { ⌜ IsRead (now file) t × IsTable (now file) t (now table) z ⌝ }
     ensures { λ r. ⌜ ruled r ≡ M.verdict (arrayOf (now (file .entry)) t) (tableOf (now (table .entry)) z) ⌝ }
 {
-    let rows = flows::flow_rows(table, z.names);
-    let loads = loads::all_loads(file, t, table, z);
-    let bounds = all_bounds(t, table, z);
+    let mut rows = [0u64; 1024];
+    let mut loads = [0u32; 24576];
+    let mut bounds = [0u32; 24];
+    flows::flow_rows(&mut rows, table, z);
+    loads::all_loads(&mut loads, file, t, table, z);
+    all_bounds(&mut bounds, table, z);
     all_rules(file, t, table, z, &rows, &loads, &bounds)
 }

@@ -1,34 +1,42 @@
--- What a record has for children, binds and uses, by its kind.
+-- What a record has for children, binds and uses.
 use Prim.Native.Nat.{ℕ}
-use native.Mathlib.Omega.{arith}
 use mathlib.Core.Path.{_≡_, refl, sym, ap, _∙_}
 use mathlib.Core.Bool.{Bool, cond, _&&_, _||_, and-assoc}
-use mathlib.Core.List.{[], _∷_}
-use lib.Dec.{eqb, leb, ltb}
+use mathlib.Core.List.{List, [], _∷_}
+use lib.Dec.{eqb, ltb}
 use lib.ListN.{length, getD}
-use borrow.Author.Tests.{le-ltb, le-leb}
 use Rattle.laws.specs.Search.{any}
 use Rattle.laws.specs.Lists.{has}
 use Rattle.laws.proofs.Search.{any-same, any-under}
 use Rattle.laws.proofs.Lists.{has-take}
+use Rattle.model.specs.Tree.{Sort, out, inp, resource, Node, isAgent, receives}
+use Rattle.model.specs.Memory.{isOut}
 use Rattle.model.specs.Formed.{params, binds, sent, uses}
 use Rattle.records.specs.declared.Record.{Record}
-use Rattle.records.specs.Record.{argsOf, nodeOf}
-use Rattle.records.proofs.Laws.{by-kind, kind-above}
+use Rattle.records.specs.Record.{argsOf, sortOf, nodeOf}
+use Rattle.records.specs.Kinds.{isNewNode, isReceiver}
+use Rattle.records.proofs.KindLaws.{by-node}
 use Rattle.scopes.specs.Scope.{isParam}
 
 module _ (r : Record) where
-  pub binds-of : (v : ℕ) → has (binds (nodeOf r)) v ≡ (eqb (r .kind) 1 && eqb v (r .name)) || isParam r v
-  unfolding binds params has
+  pub binds-of : (v : ℕ) → has (binds (nodeOf r)) v ≡ (isNewNode (nodeOf r) && eqb v (r .name)) || isParam r v
+  unfolding binds params has isNewNode isReceiver receives
   binds-of v =
-      by-kind r (λ k n. has (binds n) v ≡ (eqb k 1 && eqb v (r .name)) || (leb 5 k && has (argsOf r) v)) refl refl refl refl refl refl
-      (λ k h. rw (kind-above k 1 h (omega arith), le-leb 5 k (omega arith)))
+      by-node r (λ n. has (binds n) v ≡ (isNewNode n && eqb v (r .name)) || (isReceiver n && has (argsOf r) v)) refl refl refl refl (go (sortOf r))
+    where
+      go : (s : Sort) → has (params s (argsOf r)) v ≡ receives s && has (argsOf r) v
+      go out = refl
+      go inp = refl
+      go resource = refl
 
-  pub uses-of : uses (nodeOf r) ≡ cond (ltb (r .kind) 4) [] (r .name ∷ cond (eqb (r .kind) 4) (argsOf r) [])
-  unfolding uses sent
-  uses-of =
-      by-kind r (λ k n. uses n ≡ cond (ltb k 4) [] (r .name ∷ cond (eqb k 4) (argsOf r) [])) refl refl refl refl refl refl
-      (λ k h. rw (le-ltb k 4 (omega arith), kind-above k 4 h (omega arith)))
+  pub uses-of : uses (nodeOf r) ≡ cond (isAgent (nodeOf r)) (r .name ∷ cond (isOut (nodeOf r)) (argsOf r) []) []
+  unfolding uses sent isAgent isOut
+  uses-of = by-node r (λ n. uses n ≡ cond (isAgent n) (r .name ∷ cond (isOut n) (argsOf r) []) []) refl refl refl refl (go (sortOf r))
+    where
+      go : (s : Sort) → _≡_ {A = List ℕ} (r .name ∷ sent s (argsOf r)) (r .name ∷ cond (isOut (Node.agent s (r .name) (argsOf r) (r .left))) (argsOf r) [])
+      go out = refl
+      go inp = refl
+      go resource = refl
 
   -- the arguments where b is true, as a loop over the argument bytes finds them
   abbrev pub argAt : Bool → ℕ → ℕ → Bool

@@ -5,25 +5,28 @@ use native.Mathlib.Numerals.{add-one}
 use native.Mathlib.Omega.{arith}
 use mathlib.Core.Path.{_≡_, refl, sym, ap, ap₂, _∙_}
 use mathlib.Core.Logic.{_⊎_, inl, inr, _≢_, ⊎-elim}
-use mathlib.Core.Bool.{Bool, true, false, cond, _&&_, _||_, or-comm, false≢true}
+use mathlib.Core.Bool.{Bool, true, false, cond, not, _&&_, _||_, or-comm, false≢true}
 use mathlib.Core.List.{List, [], _∷_}
 use lib.Bits.{bitOr}
-use lib.Dec.{eqb, ltb}
+use lib.Dec.{eqb}
 use lib.ListN.{length, getD, drop, set, replicate, length-set}
 use lib.Seq.{getD-set-same, getD-set-other}
-use borrow.Author.Tests.{ltb-true, eqb-true, eqb-false, ne-eqb}
+use borrow.Author.Tests.{eqb-true, eqb-false, ne-eqb, not-true}
 use Rattle.laws.specs.Search.{clear}
 use Rattle.laws.specs.Lists.{All, all, has}
 use Rattle.laws.specs.Bits.{bit}
 use Rattle.laws.proofs.Search.{decided}
 use Rattle.laws.proofs.Lists.{All-drop, All-take, getD-All, all-same}
 use Rattle.laws.proofs.Bits.{bit-or}
-use Rattle.model.specs.Tree.{Array, nodeAt}
+use Rattle.model.specs.Tree.{Array, nodeAt, isAgent}
+use Rattle.model.specs.Memory.{isOut}
 use Rattle.model.specs.Formed.{children, binds, uses, inReach, refusal8, refusal9}
 use Rattle.records.specs.declared.Record.{Record}
 use Rattle.records.specs.declared.Trailer.{Trailer}
 use Rattle.records.specs.Record.{argsOf, recordOf, nodeOf, arrayOf}
-use Rattle.records.proofs.Laws.{children-of, left-child, right-child, node-read}
+use Rattle.records.specs.Kinds.{isStop, isPar, isChoice}
+use Rattle.records.proofs.Laws.{node-read}
+use Rattle.records.proofs.KindLaws.{children-of, left-child, right-child}
 use Rattle.model.proofs.Tree.{child-above}
 use Rattle.model.proofs.Reach.{parent, reach-root, reach-child}
 use Rattle.marks.specs.Marks.{marked}
@@ -120,18 +123,19 @@ marked-twice table p q j l r bound fl fr i v h =
     merge false c = refl
 
 module _ (table : List ℕ) (j : ℕ) (r : Record) (fits : (c : ℕ) → has (children (nodeOf r)) c ≡ true → (j < c) × (4 * c + 3 < length table)) where
-  pub left-fits : ltb 0 (r .kind) ≡ true → (j < r .left) × (4 * r .left + 3 < length table)
-  left-fits e = fits (r .left) (left-child r (ltb-true 0 (r .kind) e))
+  pub left-fits : not (isStop (nodeOf r)) ≡ true → (j < r .left) × (4 * r .left + 3 < length table)
+  left-fits e = fits (r .left) (left-child r (not-true _ e))
 
-  pub right-fits : eqb (r .kind) 2 || eqb (r .kind) 3 ≡ true → (j < r .right) × (4 * r .right + 3 < length table)
+  pub right-fits : isPar (nodeOf r) || isChoice (nodeOf r) ≡ true → (j < r .right) × (4 * r .right + 3 < length table)
   right-fits e = fits (r .right) (right-child r e)
 
   -- the two children that there may be
   pub handed-down : (bound : List ℕ) → ((v : ℕ) → v < 256 → marked bound 0 v ≡ has (binds (nodeOf r)) v)
-      → HandedDown table (passIf (passIf table (ltb 0 (r .kind)) j (r .left) bound) (eqb (r .kind) 2 || eqb (r .kind) 3) j (r .right) bound) j (nodeOf r)
+      → let first = passIf table (not (isStop (nodeOf r))) j (r .left) bound in
+      HandedDown table (passIf first (isPar (nodeOf r) || isChoice (nodeOf r)) j (r .right) bound) j (nodeOf r)
   handed-down bound b = record {
     rows = λ i v h.
-        marked-twice table (ltb 0 (r .kind)) (eqb (r .kind) 2 || eqb (r .kind) 3) j (r .left) (r .right) bound left-fits right-fits i v h
+        marked-twice table (not (isStop (nodeOf r))) (isPar (nodeOf r) || isChoice (nodeOf r)) j (r .left) (r .right) bound left-fits right-fits i v h
         ∙ ap₂ (λ (c m : Bool). cond c (marked table (4 * j) v || m) (marked table (4 * i) v)) (sym (children-of r i)) (b v h);
   }
 
@@ -172,17 +176,17 @@ module _ (a : Array) (fit : refusal8 a ≡ clear) (once : refusal9 a ≡ clear) 
 
 module _ (s : List ℕ) (t : Trailer) (bytes : (k : ℕ) → getD s k 0 < 256) where
   uses-bytes : (i : ℕ) → All (λ v. v < 256) (uses (nodeOf (recordOf s t i)))
-  uses-bytes i = rw (uses-of (recordOf s t i)) (go (ltb (recordOf s t i .kind) 4) (eqb (recordOf s t i .kind) 4))
+  uses-bytes i = rw (uses-of (recordOf s t i)) (go (isAgent (nodeOf (recordOf s t i))) (isOut (nodeOf (recordOf s t i))))
     where
       args : All (λ v. v < 256) (argsOf (recordOf s t i))
       args =
           let rest = All-drop (λ v. v < 256) (t .start + 16 * i + 8) s (getD-All (λ v. v < 256) s 0 bytes) in
           All-take (λ v. v < 256) (recordOf s t i .arity) (recordOf s t i .args) (All-take (λ v. v < 256) 8 (drop (t .start + 16 * i + 8) s) rest)
 
-      go : (a b : Bool) → All (λ v. v < 256) (cond a [] (recordOf s t i .name ∷ cond b (argsOf (recordOf s t i)) []))
-      go true b = tt
-      go false true = (bytes (t .start + 16 * i + 6), args)
-      go false false = (bytes (t .start + 16 * i + 6), tt)
+      go : (a b : Bool) → All (λ v. v < 256) (cond a (recordOf s t i .name ∷ cond b (argsOf (recordOf s t i)) []) [])
+      go true true = (bytes (t .start + 16 * i + 6), args)
+      go true false = (bytes (t .start + 16 * i + 6), tt)
+      go false b = tt
 
   -- where the table's rows are right, its marks answer for node i, whose record is r
   pub uses-reached : (table : List ℕ) → ((i v : ℕ) → i < t .nodes → v < 256 → marked table (4 * i) v ≡ inReach (arrayOf s t) v i)

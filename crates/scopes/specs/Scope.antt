@@ -4,18 +4,18 @@ use mathlib.Core.Path.{_≡_}
 use mathlib.Core.Bool.{Bool, true, false, cond, _&&_, _||_}
 use mathlib.Core.List.{List}
 use lib.Bits.{bitOr}
-use lib.Dec.{leb}
 use lib.ListN.{getD, set}
 use Rattle.laws.specs.Lists.{has}
 use Rattle.marks.specs.Marks.{marked}
 use Rattle.model.specs.Tree.{Node}
 use Rattle.model.specs.Formed.{children, binds}
 use Rattle.records.specs.declared.Record.{Record}
-use Rattle.records.specs.Record.{argsOf}
+use Rattle.records.specs.Record.{argsOf, nodeOf}
+use Rattle.records.specs.Kinds.{isReceiver}
 
 -- name v is a parameter of a record
 abbrev pub isParam : Record → ℕ → Bool
-isParam r v = leb 5 (r .kind) && has (argsOf r) v
+isParam r v = isReceiver (nodeOf r) && has (argsOf r) v
 
 -- the first n words of row `to` hold those of row `from` and of `bound`
 unfoldable pub passed : List ℕ → ℕ → ℕ → List ℕ → ℕ → List ℕ

@@ -4,11 +4,11 @@
 ghost use mathlib.Core.Path.{_≡_};
 ghost use mathlib.Core.Bool.{true, _&&_, _||_};
 ghost use Prim.Native.Nat.{ℕ, _+_, _*_, _<_, _≤_};
-ghost use lib.ListN.{length};
+ghost use lib.ListN.{length, replicate};
 ghost use Rattle.laws.specs.Search.{clear};
 ghost use Rattle.laws.specs.Lists.{all, has};
 ghost use Rattle.model.specs.Formed.{children, binds, uses, inReach, refusal8, refusal9, refusal12};
-ghost use Rattle.records.specs.Record.{argsOf, nodeOf, arrayOf, foundOf};
+ghost use Rattle.records.specs.Record.{RecordsFit, argsOf, nodeOf, arrayOf, foundOf};
 ghost use Rattle.marks.specs.Marks.{marked};
 ghost use Rattle.scopes.specs.Scope.{passed, passIf, HandedDown};
 use records::Check;
@@ -24,7 +24,7 @@ pub fn mark_args(row: &mut [u64], on: bool, r: Record)
     let args = r.args;
     let mut k: usize = 0;
     while k < 8 {
-        marks::mark_if(row, on & (k < r.arity), records::wide(args[k]));
+        marks::mark_if(row, on & (k < r.arity), wire::byte_index(args[k]));
         k += 1;
     }
 }
@@ -35,8 +35,8 @@ pub fn bound_by(r: Record) -> [u64; 4]
     ensures { λ row. ⌜ ((v : ℕ) → v < 256 → marked row 0 v ≡ has (binds (nodeOf r)) v) ⌝ }
 {
     let mut row = [0u64; 4];
-    marks::mark_if(&mut row, r.kind == 1, r.name);
-    mark_args(&mut row, 5 <= r.kind, r);
+    marks::mark_if(&mut row, records::is_new(r), r.name);
+    mark_args(&mut row, records::receives(r), r);
     row
 }
 
@@ -69,24 +69,22 @@ fn pass_children(table: &mut [u64], j: usize, r: Record)
     ensures { λ _. ⌜ HandedDown (now (table .entry)) (now (table .exit)) j (nodeOf r) ⌝ }
 {
     let bound = bound_by(r);
-    pass_if(table, 0 < r.kind, j, r.left, bound);
-    pass_if(table, (r.kind == 2) | (r.kind == 3), j, r.right, bound);
+    pass_if(table, records::continues(r), j, r.left, bound);
+    pass_if(table, records::branches(r), j, r.right, bound);
 }
 
-// The names that reach each node, marked in rows of four words.
-fn scopes(file: &[u8], t: Trailer) -> [u64; 4096]
-    requires { ⌜ (t .start + 16 * t .nodes ≤ length (now file)) × (t .nodes ≤ 1024) ⌝ }
+// The names that reach each node, marked in rows of four words of a list that has no marks.
+fn fill_scopes(table: &mut [u64], file: &[u8], t: Trailer)
+    requires { ⌜ RecordsFit (now file) t × (t .nodes ≤ 1024) × (now table ≡ replicate 4096 0) ⌝ }
     requires { ⌜ (refusal8 (arrayOf (now file) t) ≡ clear) × (refusal9 (arrayOf (now file) t) ≡ clear) ⌝ }
-    ensures { λ table. ⌜ ((i v : ℕ) → i < t .nodes → v < 256 → marked table (4 * i) v ≡ inReach (arrayOf (now (file .entry)) t) v i) ⌝ }
+    ensures { λ _. ⌜ ((i v : ℕ) → i < t .nodes → v < 256 → marked (now (table .exit)) (4 * i) v ≡ inReach (arrayOf (now (file .entry)) t) v i) ⌝ }
 {
-    let mut table = [0u64; 4096];
     let mut j: usize = 0;
     while j < t.nodes {
-        let r = records::record_at(file, t.start + 16 * j);
-        pass_children(&mut table, j, r);
+        let r = records::node_at(file, t, j);
+        pass_children(table, j, r);
         j += 1;
     }
-    table
 }
 
 // The arguments are marked in the row at `at`.
@@ -98,7 +96,7 @@ fn args_marked(table: &[u64], at: usize, r: Record) -> bool
     let mut found = true;
     let mut k: usize = 0;
     while k < 8 {
-        let here = marks::is_marked(table, at, records::wide(args[k]));
+        let here = marks::is_marked(table, at, wire::byte_index(args[k]));
         found = found & ((r.arity <= k) | here);
         k += 1;
     }
@@ -110,10 +108,10 @@ fn uses_marked(table: &[u64], at: usize, r: Record) -> bool
     requires { ⌜ (at + 3 < length (now table)) × (r .name < 256) ⌝ }
     ensures { λ b. ⌜ b ≡ all (marked (now (table .entry)) at) (uses (nodeOf r)) ⌝ }
 {
-    if r.kind < 4 {
+    if !records::is_agent(r) {
         return true;
     }
-    if r.kind == 4 {
+    if records::sends(r) {
         let args = args_marked(table, at, r);
         return marks::is_marked(table, at, r.name) & args;
     }
@@ -122,14 +120,15 @@ fn uses_marked(table: &[u64], at: usize, r: Record) -> bool
 
 // Refusal 12.
 pub fn bad_reach(file: &[u8], t: Trailer) -> Check
-    requires { ⌜ (t .start + 16 * t .nodes ≤ length (now file)) × (t .nodes ≤ 1024) ⌝ }
+    requires { ⌜ RecordsFit (now file) t × (t .nodes ≤ 1024) ⌝ }
     requires { ⌜ (refusal8 (arrayOf (now file) t) ≡ clear) × (refusal9 (arrayOf (now file) t) ≡ clear) ⌝ }
     ensures { λ r. ⌜ foundOf r ≡ refusal12 (arrayOf (now (file .entry)) t) ⌝ }
 {
-    let table = scopes(file, t);
+    let mut table = [0u64; 4096];
+    fill_scopes(&mut table, file, t);
     let mut i: usize = 0;
     while i < t.nodes {
-        let r = records::record_at(file, t.start + 16 * i);
+        let r = records::node_at(file, t, i);
         if !uses_marked(&table, 4 * i, r) {
             return Check::Refused(Refusal {
                 number: 12,

@@ -1,27 +1,23 @@
 -- What the tests of a table's trailer say, and that a table that was read is one.
-use Prim.Native.Nat.{ℕ, _+_, _*_, _-_, _≤_}
-use native.Mathlib.Nat.{zero-mul, add-zero}
-use native.Mathlib.Omega.{arith}
-use mathlib.Core.Path.{_≡_, refl, sym, ap, ap₂, _∙_, subst}
+use Prim.Native.Nat.{ℕ, _+_, _≤_}
+use mathlib.Core.Path.{_≡_, refl, sym, ap, ap₂, _∙_}
 use mathlib.Core.Bool.{true, _&&_}
 use mathlib.Core.List.{List}
 use lib.Dec.{eqb, leb}
 use lib.ListN.{length}
 use borrow.Author.Tests.{leb-true, eqb-true}
-use Rattle.laws.specs.Search.{Found, clear, hit, andThen}
+use Rattle.laws.specs.Search.{Found, clear}
 use Rattle.laws.proofs.Search.{and-split, test-clear, andThen-split, clear-andThen, hit-andThen}
-use Rattle.wire.specs.Numbers.{u32At}
 use Rattle.model.specs.Formed as F
 use Rattle.records.specs.declared.Trailer.{Trailer}
 use Rattle.records.specs.declared.Refusal.{Refusal}
-use Rattle.records.specs.Record.{arrayOf}
 use Rattle.arrays.specs.declared.ArrayAnswer.the-variants as A
-use Rattle.arrays.specs.File.{trailerOf, arrayRefusal, readArray, IsRead}
-use Rattle.arrays.proofs.Laws.{read-passes, read-refuses, read-is}
+use Rattle.arrays.specs.File.{trailerOf, arrayRefusal, readArray}
+use Rattle.arrays.proofs.Laws.{read-passes, read-refuses}
 use Rattle.layout.specs.declared.Sizes.{Sizes}
-use Rattle.layout.specs.Table.{balanceSize, balanceAt, claimAt, sizesOf, lengthFits, countsFit, startsFit, partsFit, refusal13, refusal19, refusal20, refusal21, Laid, IsTable}
-use Rattle.tables.specs.declared.TableAnswer.the-variants.{Read, Refused}
-use Rattle.tables.specs.Read.{tableRefusal, filesRefusal, answer, readTable}
+use Rattle.layout.specs.Table.{claimAt, sizesOf, lengthFits, countsFit, startsFit, partsFit, IsTable}
+use Rattle.tables.specs.declared.TableAnswer.the-variants.{Refused}
+use Rattle.tables.specs.Read.{tableRefusal, answer, readTable}
 
 pub length-fits : (s : List ℕ) → lengthFits s ≡ true → 28 ≤ length s
 length-fits s e = leb-true _ _ (and-split (leb 28 (length s)) _ (and-split (leb 28 (length s) && leb (length s) 59516) _ e .0) .0)
@@ -32,15 +28,6 @@ counts-fit z e = let c = and-split (leb (z .balances) 24) (leb (z .claims) 256) 
 pub parts-fill : (s : List ℕ) (z : Sizes) → partsFit s z ≡ true → claimAt z (z .claims) + 28 ≡ length s
 unfolding partsFit
 parts-fill s z e = eqb-true _ _ (and-split (startsFit s z) (eqb (claimAt z (z .claims) + 28) (length s)) e .1)
-
--- the tests as the code makes them: b, c and n are where it finds balances and claims to start
-pub parts-tests : (s : List ℕ) (z : Sizes) (a b c n : ℕ) → a ≡ u32At s (length s - 28) → b ≡ u32At s (length s - 24) → c ≡ u32At s (length s - 20)
-    → n ≡ claimAt z 0 → eqb a 0 && eqb b (32 * z .names) && eqb c n && eqb (n + 8 * z .claims + 28) (length s) ≡ partsFit s z
-unfolding partsFit
-parts-tests s z a b c n ea eb ec en =
-    let e : 32 * z .names ≡ balanceAt z 0 = sym (ap (λ (k : ℕ). 32 * z .names + k) (zero-mul (balanceSize z)) ∙ add-zero _) in
-    let f : n + 8 * z .claims + 28 ≡ claimAt z (z .claims) + 28 = omega arith in
-    ap₂ _&&_ (ap₂ _&&_ (ap₂ _&&_ (ap (λ (x : ℕ). eqb x 0) ea) (ap₂ eqb eb e)) (ap₂ eqb ec en)) (ap (λ (x : ℕ). eqb x (length s)) f)
 
 -- ---- a table that was read
 
@@ -76,7 +63,8 @@ module _ (f s : List ℕ) where
   unfolding readTable
   array-refused r e = ap (λ x. answer x (sizesOf (trailerOf f) s)) (sym (hit-andThen (arrayRefusal f) (tableRefusal f (trailerOf f) s) _ (read-refuses f r e)))
 
-  pub array-read : (t : Trailer) (x : Found F.Refusal) (z : Sizes) → readArray f ≡ A.Read t → x ≡ tableRefusal f t s → z ≡ sizesOf t s → answer x z ≡ readTable f s
+  pub array-read : (t : Trailer) (x : Found F.Refusal) (z : Sizes) → readArray f ≡ A.Read t → x ≡ tableRefusal f t s → z ≡ sizesOf t s
+      → answer x z ≡ readTable f s
   unfolding readTable
   array-read t x z e found size =
       let p = read-passes f t e in

@@ -16,7 +16,7 @@ abbrev pub tableRefusal : List ℕ → Trailer → List ℕ → Found F.Refusal
 tableRefusal f t s =
     let z = sizesOf t s in
     andThen (refusal13 s)
-    (andThen (refusal14 s)
+    (andThen (refusal14 z)
     (andThen (refusal15 z)
     (andThen (refusal16 s z)
     (andThen (refusal17 s)
@@ -47,4 +47,4 @@ abbrev pub from16 : List ℕ → Trailer → List ℕ → Sizes → Found F.Refu
 from16 f t s z = andThen (refusal16 s z) (andThen (refusal17 s) (from18 f t s z))
 
 abbrev pub from14 : List ℕ → Trailer → List ℕ → Sizes → Found F.Refusal
-from14 f t s z = andThen (refusal14 s) (andThen (refusal15 z) (from16 f t s z))
+from14 f t s z = andThen (refusal14 z) (andThen (refusal15 z) (from16 f t s z))

@@ -2,10 +2,10 @@
 // Promises specs/Read, for every two byte strings; proofs/Laws says that a table that was read is one (IsTable, in layout).
 // Depends on the crates that check one part each (flows, weights), layout, arrays, records, wire, model and laws.
 ghost use mathlib.Core.Path.{_≡_};
-ghost use Prim.Native.Nat.{_+_, _*_, _≤_};
+ghost use Prim.Native.Nat.{_≤_};
 ghost use lib.ListN.{length};
-ghost use Rattle.records.specs.Record.{foundOf};
-ghost use Rattle.layout.specs.Table.{claimAt, partsFit};
+ghost use Rattle.records.specs.Record.{foundOf, RecordsFit};
+ghost use Rattle.layout.specs.Table.{partsFit, Laid};
 ghost use Rattle.tables.specs.Read.{from14, from16, from18, from20, tableRefusal, readTable};
 use arrays::ArrayAnswer;
 use layout::Sizes;
@@ -20,8 +20,7 @@ pub enum TableAnswer {
 
 // Refusals 20 and 21.
 fn check_numbers(file: &[u8], t: Trailer, table: &[u8], z: Sizes) -> Check
-    requires { ⌜ (t .start + 16 * t .nodes ≤ length (now file)) × (t .start ≤ 1024) × (t .nodes ≤ 1024) ⌝ }
-    requires { ⌜ (z .nodes ≡ t .nodes) × (z .names ≤ 256) × (z .balances ≤ 24) × (claimAt z (z .claims) ≤ length (now table)) ⌝ }
+    requires { ⌜ RecordsFit (now file) t × (t .nodes ≤ 1024) × (t .names ≤ 256) × Laid t (now table) z ⌝ }
     ensures { λ r. ⌜ foundOf r ≡ from20 (now (file .entry)) t (now (table .entry)) z ⌝ }
 {
     if let Check::Refused(r) = weights::bad_balance(file, t, table, z) {
@@ -32,8 +31,7 @@ fn check_numbers(file: &[u8], t: Trailer, table: &[u8], z: Sizes) -> Check
 
 // Refusals 18 to 21.
 fn check_rows(file: &[u8], t: Trailer, table: &[u8], z: Sizes) -> Check
-    requires { ⌜ (t .start + 16 * t .nodes ≤ length (now file)) × (t .start ≤ 1024) × (t .nodes ≤ 1024) ⌝ }
-    requires { ⌜ (z .nodes ≡ t .nodes) × (z .names ≤ 256) × (z .balances ≤ 24) × (claimAt z (z .claims) + 28 ≤ length (now table)) ⌝ }
+    requires { ⌜ RecordsFit (now file) t × (t .nodes ≤ 1024) × (t .names ≤ 256) × Laid t (now table) z ⌝ }
     ensures { λ r. ⌜ foundOf r ≡ from18 (now (file .entry)) t (now (table .entry)) z ⌝ }
 {
     if wire::u32_at(table, table.len() - 12) != t.sum {
@@ -52,17 +50,16 @@ fn parts_fit(table: &[u8], z: Sizes) -> bool
     ensures { λ b. ⌜ b ≡ partsFit (now (table .entry)) z ⌝ }
 {
     let len = table.len();
-    let claims = layout::claims_at(z);
     (wire::u32_at(table, len - 28) == 0)
-        & (wire::wide(wire::u32_at(table, len - 24)) == 32 * z.names)
-        & (wire::wide(wire::u32_at(table, len - 20)) == claims)
-        & (claims + 8 * z.claims + 28 == len)
+        & (wire::word_index(wire::u32_at(table, len - 24)) == layout::balance_at(z, 0))
+        & (wire::word_index(wire::u32_at(table, len - 20)) == layout::claim_at(z, 0))
+        & (layout::claim_at(z, z.claims) + 28 == len)
 }
 
 // Refusals 16 to 21.
 fn check_parts(file: &[u8], t: Trailer, table: &[u8], z: Sizes) -> Check
-    requires { ⌜ (t .start + 16 * t .nodes ≤ length (now file)) × (t .start ≤ 1024) × (t .nodes ≤ 1024) ⌝ }
-    requires { ⌜ (z .nodes ≡ t .nodes) × (z .names ≤ 256) × (z .balances ≤ 24) × (z .claims ≤ 256) × (28 ≤ length (now table)) ⌝ }
+    requires { ⌜ RecordsFit (now file) t × (t .nodes ≤ 1024) × (t .names ≤ 256) ⌝ }
+    requires { ⌜ (z .nodes ≡ t .nodes) × (z .names ≡ t .names) × (z .balances ≤ 24) × (z .claims ≤ 256) × (28 ≤ length (now table)) ⌝ }
     ensures { λ r. ⌜ foundOf r ≡ from16 (now (file .entry)) t (now (table .entry)) z ⌝ }
 {
     let len = table.len();
@@ -77,14 +74,14 @@ fn check_parts(file: &[u8], t: Trailer, table: &[u8], z: Sizes) -> Check
 
 // Refusals 14 to 21.
 fn check_letters(file: &[u8], t: Trailer, table: &[u8], z: Sizes) -> Check
-    requires { ⌜ (t .start + 16 * t .nodes ≤ length (now file)) × (t .start ≤ 1024) × (t .nodes ≤ 1024) ⌝ }
-    requires { ⌜ (z .nodes ≡ t .nodes) × (z .names ≤ 256) × (28 ≤ length (now table)) ⌝ }
+    requires { ⌜ RecordsFit (now file) t × (t .nodes ≤ 1024) × (t .names ≤ 256) ⌝ }
+    requires { ⌜ (z .nodes ≡ t .nodes) × (z .names ≡ t .names) × (28 ≤ length (now table)) ⌝ }
     ensures { λ r. ⌜ foundOf r ≡ from14 (now (file .entry)) t (now (table .entry)) z ⌝ }
 {
-    if wire::u32_at(table, table.len() - 4) != 826493264 {
+    if z.form != 1 {
         return records::refused(14);
     }
-    if !((z.balances <= 24) & (z.claims <= 256)) {
+    if !((z.balances <= layout::most_balances(z.form)) & (z.claims <= 256)) {
         return records::refused(15);
     }
     check_parts(file, t, table, z)
@@ -92,7 +89,7 @@ fn check_letters(file: &[u8], t: Trailer, table: &[u8], z: Sizes) -> Check
 
 // Refusals 13 to 21, of a table for an array that was read.
 pub fn check_table(file: &[u8], t: Trailer, table: &[u8]) -> Check
-    requires { ⌜ (t .start + 16 * t .nodes ≤ length (now file)) × (t .start ≤ 1024) × (t .nodes ≤ 1024) × (t .names ≤ 256) ⌝ }
+    requires { ⌜ RecordsFit (now file) t × (t .nodes ≤ 1024) × (t .names ≤ 256) ⌝ }
     ensures { λ r. ⌜ foundOf r ≡ tableRefusal (now (file .entry)) t (now (table .entry)) ⌝ }
 {
     let len = table.len();

@@ -66,7 +66,8 @@ module _ (a : Array) (k at : ℕ) (l : List ℕ) (i : ℕ) (here : i ≡ getD l 
   by-words =
       let it = threadIn (a .names) (drop at l) in
       let n : it .agent ≡ i = agent-word (a .names) at l ∙ sym here in
-      ap₂ (λ (j x : ℕ). isAgent (nodeAt a j) && (leb x k && every (a .names) (λ v. wordFormed a k (isFree (procAt a j) v) (getD (it .env) v 0)))) n (marker-word (a .names) at l)
+      ap₂ (λ (j x : ℕ). isAgent (nodeAt a j) && (leb x k && every (a .names) (λ v. wordFormed a k (isFree (procAt a j) v) (getD (it .env) v 0)))) n
+      (marker-word (a .names) at l)
       ∙ ap (λ (b : Bool). isAgent (nodeAt a i) && (leb (getD l (at + 1) 0) k && b))
       (every-same (a .names) _ _ (λ v h. ap (λ (x : ℕ). wordFormed a k (isFree (procAt a i) v) x) (name-word (a .names) at l v h)))
 
@@ -78,10 +79,10 @@ module _ (a : Array) (k at : ℕ) (l : List ℕ) (i : ℕ) (here : i ≡ getD l 
     marker-past h =
         sym (by-words ∙ ap₂ (λ (b d : Bool). b && (d && namesTest)) agent (lt-leb (getD l (at + 1) 0) k h))
 
-    pub names-tell : (table news : List ℕ) → AllFree table a → ((o : ℕ) → marked news 0 o ≡ isNew a o) → i < a .size → a .names ≤ 256 → getD l (at + 1) 0 ≤ k
-        → every (a .names) (λ v. wordOk (marked news 0) k (marked table (4 * i) v) (getD l (at + 2 + v) 0)) ≡ threadFormed a k (threadIn (a .names) (drop at l))
-    names-tell table news free new h few m =
+    pub names-tell : (frees news : List ℕ) → AllFree frees a → ((o : ℕ) → marked news 0 o ≡ isNew a o) → i < a .size → a .names ≤ 256 → getD l (at + 1) 0 ≤ k
+        → every (a .names) (λ v. wordOk (marked news 0) k (marked frees (4 * i) v) (getD l (at + 2 + v) 0)) ≡ threadFormed a k (threadIn (a .names) (drop at l))
+    names-tell frees news free new h few m =
         every-same (a .names) _ _
-        (λ v lt. word-same a (marked news 0) k (marked table (4 * i) v) (getD l (at + 2 + v) 0) new
+        (λ v lt. word-same a (marked news 0) k (marked frees (4 * i) v) (getD l (at + 2 + v) 0) new
         ∙ ap (λ (b : Bool). wordFormed a k b (getD l (at + 2 + v) 0)) (free i v h (omega arith)))
         ∙ sym (by-words ∙ ap₂ (λ (b d : Bool). b && (d && namesTest)) agent (le-leb (getD l (at + 1) 0) k m))

@@ -59,7 +59,7 @@ fn keep_if(threads: &mut [u32], stays: bool, from: usize, to: usize, width: usiz
     to + width
 }
 
-// Moves the threads that stay together, in order, and returns the words that they use. Nothing is written at or past those words.
+// Moves the threads that stay together, in order. Nothing is written past the words that they use.
 pub fn keep_threads(
     threads: &mut [u32],
     names: usize,
@@ -67,10 +67,10 @@ pub fn keep_threads(
     r: usize,
     s: usize,
     resource: bool,
-) -> usize
+)
     requires { ⌜ (count * (2 + names) ≤ length (now threads)) × (names ≤ 256) × (count ≤ 256) ⌝ }
-    ensures { λ e. ⌜ (now (threads .exit) ≡ put 0 (wordsOf (keep (remains resource r s) (threadsIn names count (now (threads .entry))))) (now (threads .entry)))
-        × (e ≡ length (wordsOf (keep (remains resource r s) (threadsIn names count (now (threads .entry)))))) ⌝ }
+    ensures { λ _. ⌜ now (threads .exit)
+        ≡ put 0 (wordsOf (keep (remains resource r s) (threadsIn names count (now (threads .entry))))) (now (threads .entry)) ⌝ }
 {
     let width = 2 + names;
     let mut from: usize = 0;
@@ -81,7 +81,6 @@ pub fn keep_threads(
         from += width;
         i += 1;
     }
-    to
 }
 
 // ---- parameters
@@ -97,7 +96,7 @@ pub fn bind_params(p: Record, q: Record, sent: &[u32], env: &mut [u32])
     let mut k = p.arity;
     while 0 < k {
         k -= 1;
-        env[records::wide(params[k])] = sent[records::wide(args[k])];
+        env[wire::byte_index(params[k])] = sent[wire::byte_index(args[k])];
     }
 }
 
@@ -115,7 +114,7 @@ fn word_formed(news: &[u64], marks: usize, free: bool, x: u32) -> bool
     if x == 0 {
         return false;
     }
-    let opening = wire::wide(x - 1);
+    let opening = wire::word_index(x - 1);
     let new = opening / 65536;
     if 256 <= new {
         return false;
@@ -126,7 +125,7 @@ fn word_formed(news: &[u64], marks: usize, free: bool, x: u32) -> bool
 
 // The words of the names from index `at` on are well formed for agent i.
 fn names_formed(
-    table: &[u64],
+    frees: &[u64],
     news: &[u64],
     names: usize,
     marks: usize,
@@ -134,13 +133,13 @@ fn names_formed(
     threads: &[u32],
     at: usize,
 ) -> bool
-    requires { ⌜ (4 * i + 3 < length (now table)) × (length (now news) ≡ 4) × (names ≤ 256) × (at + names ≤ length (now threads)) ⌝ }
+    requires { ⌜ (4 * i + 3 < length (now frees)) × (length (now news) ≡ 4) × (names ≤ 256) × (at + names ≤ length (now threads)) ⌝ }
     ensures { λ b. ⌜ b ≡ every names (λ v.
-        wordOk (marked (now (news .entry)) 0) marks (marked (now (table .entry)) (4 * i) v) (getD (now (threads .entry)) (at + v) 0)) ⌝ }
+        wordOk (marked (now (news .entry)) 0) marks (marked (now (frees .entry)) (4 * i) v) (getD (now (threads .entry)) (at + v) 0)) ⌝ }
 {
     let mut v: usize = 0;
     while v < names {
-        let free = marks::is_marked(table, 4 * i, v);
+        let free = marks::is_marked(frees, 4 * i, v);
         if !word_formed(news, marks, free, threads[at + v]) {
             return false;
         }
@@ -153,43 +152,40 @@ fn names_formed(
 fn thread_formed(
     file: &[u8],
     t: Trailer,
-    table: &[u64],
+    frees: &[u64],
     news: &[u64],
     marks: usize,
     threads: &[u32],
     at: usize,
 ) -> bool
     requires { ⌜ IsRead (now file) t × (at + (2 + t .names) ≤ length (now threads)) ⌝ }
-    requires { ⌜ (length (now table) ≡ 4096) × AllFree (now table) (arrayOf (now file) t) ⌝ }
+    requires { ⌜ (length (now frees) ≡ 4096) × AllFree (now frees) (arrayOf (now file) t) ⌝ }
     requires { ⌜ (length (now news) ≡ 4) × ((o : ℕ) → marked (now news) 0 o ≡ isNew (arrayOf (now file) t) o) ⌝ }
     ensures { λ b. ⌜ b ≡ threadFormed (arrayOf (now (file .entry)) t) marks (threadIn (t .names) (drop at (now (threads .entry)))) ⌝ }
 {
-    let i = wire::wide(threads[at]);
-    if t.nodes <= i {
+    let i = wire::word_index(threads[at]);
+    let r = records::node_or_stop(file, t, i);
+    if !records::is_agent(r) {
         return false;
     }
-    let r = records::record_at(file, t.start + 16 * i);
-    if r.kind < 4 {
+    if marks < wire::word_index(threads[at + 1]) {
         return false;
     }
-    if marks < wire::wide(threads[at + 1]) {
-        return false;
-    }
-    names_formed(table, news, t.names, marks, i, threads, at + 2)
+    names_formed(frees, news, t.names, marks, i, threads, at + 2)
 }
 
 // The first `count` threads are well formed.
 pub fn threads_formed(
     file: &[u8],
     t: Trailer,
-    table: &[u64],
+    frees: &[u64],
     news: &[u64],
     marks: usize,
     threads: &[u32],
     count: usize,
 ) -> bool
     requires { ⌜ IsRead (now file) t × (count ≤ 256) × (count * (2 + t .names) ≤ length (now threads)) ⌝ }
-    requires { ⌜ (length (now table) ≡ 4096) × AllFree (now table) (arrayOf (now file) t) ⌝ }
+    requires { ⌜ (length (now frees) ≡ 4096) × AllFree (now frees) (arrayOf (now file) t) ⌝ }
     requires { ⌜ (length (now news) ≡ 4) × ((o : ℕ) → marked (now news) 0 o ≡ isNew (arrayOf (now file) t) o) ⌝ }
     ensures { λ b. ⌜ b ≡ threadsFormed (arrayOf (now (file .entry)) t) (threadsIn (t .names) count (now (threads .entry))) count marks ⌝ }
 {
@@ -197,7 +193,7 @@ pub fn threads_formed(
     let mut at: usize = 0;
     let mut i: usize = 0;
     while i < count {
-        if !thread_formed(file, t, table, news, marks, threads, at) {
+        if !thread_formed(file, t, frees, news, marks, threads, at) {
             return false;
         }
         at += width;

@@ -1,6 +1,6 @@
--- Unfolding node by node: what each kind of record unfolds to, how many threads and words that is, and how the words are laid in place.
-use Prim.Native.Nat.{ℕ, suc, _+_, _*_, _≤_, _<_}
-use native.Mathlib.Nat.{add-zero, add-assoc, one-mul}
+-- Unfolding node by node: what each kind of node unfolds to, and how the words of threads are written behind each other.
+use Prim.Native.Nat.{ℕ, suc, _+_, _*_, _≤_, _<_, min}
+use native.Mathlib.Nat.{add-zero, add-mul, mul-le-mul-right}
 use native.Mathlib.Numerals.{add-one}
 use native.Mathlib.Omega.{arith}
 use mathlib.Core.Path.{_≡_, refl, sym, ap, ap₂, _∙_, subst}
@@ -9,45 +9,28 @@ use mathlib.Core.List.{List, [], _∷_, _++_, append-nil}
 use lib.ListN.{length, getD, set, take, length-append, length-set}
 use lib.Seq.{take-suc, set-set, set-getD, length-take-le}
 use Rattle.laws.specs.Lists.{put}
+use Rattle.laws.proofs.Search.{or-right}
 use Rattle.laws.proofs.Lists.{All-append}
 use Rattle.laws.proofs.Put.{put-nil, put-put, set-put, set-as-put}
 use Rattle.marks.specs.Marks.{marked}
-use Rattle.model.specs.Tree.{Node, nodeAt, Proc, grow, procAt, isFree}
+use Rattle.model.specs.Tree.{Node, isAgent, Proc, grow, procAt, isFree}
 use Rattle.model.specs.Calculus.{Notation, Choices, Config, choicesOf, cutFrom, unfoldProc}
 use Rattle.model.specs.Memory.{words, wordsOf, opening}
 use Rattle.model.proofs.Tree.{procAt-grow}
 use Rattle.model.proofs.Threads.{length-cut}
-use Rattle.model.proofs.Memory.{words-append, Wide, length-words}
+use Rattle.model.proofs.Memory.{words-append, Wide, length-words, next-slot}
 use Rattle.records.specs.declared.Record.{Record}
 use Rattle.records.specs.declared.Trailer.{Trailer}
 use Rattle.records.specs.Record.{nodeOf, arrayOf}
-use Rattle.records.proofs.Laws.{by-kind}
+use Rattle.records.specs.Kinds.{isStop, isNewNode, isPar, isChoice}
+use Rattle.records.proofs.KindLaws as K
 use Rattle.arrays.specs.File.{IsRead}
 use Rattle.arrays.specs.Agents.{Reads}
-use Rattle.arrays.proofs.Agents.{node-is}
+use Rattle.arrays.proofs.Agents.{node-is, left-above, right-above}
 use Rattle.frees.specs.Frees.{AllFree}
-use Rattle.unfolds.specs.Unfold.{unfolded, Laid}
+use Rattle.unfolds.specs.Unfold.{Unfolds, unfolded, Written}
 
--- ---- how many threads, and how many words
-
--- markers and cells do not matter for the number of threads
-module _ {X C Y D : Type 0} (N : Notation X C) (O : Notation Y D) (ch : Choices) where
-  pub length-unfold : (m : X) (e : List C) (k : Y) (f : List D) (p : Proc) → length (unfoldProc N ch m e p) ≡ length (unfoldProc O ch k f p)
-  unfolding unfoldProc
-  length-unfold m e k f Proc.stop = refl
-  length-unfold m e k f (Proc.new n p) = length-unfold m (set e n (N .holds n m)) k (set f n (O .holds n k)) p
-  length-unfold m e k f (Proc.par p q) =
-      length-append (unfoldProc N ch m e p) (unfoldProc N ch m e q)
-      ∙ ap₂ _+_ (length-unfold m e k f p) (length-unfold m e k f q)
-      ∙ sym (length-append (unfoldProc O ch k f p) (unfoldProc O ch k f q))
-  length-unfold m e k f (Proc.choice i p q) = pick (ch i) (length-unfold m e k f p) (length-unfold m e k f q)
-    where
-      pick : (b : Bool) → length (unfoldProc N ch m e p) ≡ length (unfoldProc O ch k f p)
-          → length (unfoldProc N ch m e q) ≡ length (unfoldProc O ch k f q)
-          → length (cond b (unfoldProc N ch m e q) (unfoldProc N ch m e p)) ≡ length (cond b (unfoldProc O ch k f q) (unfoldProc O ch k f p))
-      pick true g h = h
-      pick false g h = g
-  length-unfold m e k f (Proc.agent i s x ys p) = refl
+-- ---- how many words
 
 -- each thread has as many names as the environment
 module _ (N : Notation ℕ ℕ) (ch : Choices) (m : ℕ) where
@@ -66,15 +49,11 @@ module _ (N : Notation ℕ ℕ) (ch : Choices) (m : ℕ) where
       pick false g h = g
   wide-unfold e (Proc.agent i s x ys p) = (length-cut N (isFree (Proc.agent i s x ys p)) 0 e, tt)
 
-module _ (s : List ℕ) (t : Trailer) (choices : List ℕ) (i : ℕ) where
-  -- any marker and any environment give as many threads
-  pub length-unfolded : (m k : ℕ) (e f : List ℕ) → length (unfolded s t choices i m e) ≡ length (unfolded s t choices i k f)
-  unfolding unfolded
-  length-unfolded m k e f = length-unfold (words []) (words []) (choicesOf choices) m e k f (procAt (arrayOf s t) i)
-
-  pub words-unfolded : (m : ℕ) (e : List ℕ) → length (wordsOf (unfolded s t choices i m e)) ≡ length (unfolded s t choices i m e) * (2 + length e)
-  unfolding unfolded
-  words-unfolded m e = length-words (length e) _ (wide-unfold (words []) (choicesOf choices) m e (procAt (arrayOf s t) i))
+pub wide-unfolded : (s : List ℕ) (t : Trailer) (choices : List ℕ) (i m : ℕ) (e : List ℕ) → length e ≡ t .names
+    → Wide (t .names) (unfolded s t choices i m e)
+unfolding unfolded
+wide-unfolded s t choices i m e h =
+    subst (λ (n : ℕ). Wide n (unfolded s t choices i m e)) h (wide-unfold (words []) (choicesOf choices) m e (procAt (arrayOf s t) i))
 
 -- ---- an environment cut to the free names
 
@@ -121,120 +100,110 @@ thread-put at a b xs l h =
     ∙ ap (λ (k : List ℕ). put (at + 2) xs k) (set-put at (a ∷ []) l (omega arith) b (omega arith))
     ∙ put-put at (a ∷ b ∷ []) l (omega arith) xs
 
--- ---- what node i unfolds to, by the kind of its record
+-- ---- what node i unfolds to, by its node
 
 -- node i of file s, which was read, has record r
 abbrev pub Stands : List ℕ → Trailer → ℕ → Record → Type 0
 Stands s t i r = IsRead s t × Reads s t i r
 
 module _ {s : List ℕ} {t : Trailer} {i : ℕ} {r : Record} (a : Stands s t i r) where
-  stands : (v : Node) → nodeOf r ≡ v → nodeAt (arrayOf s t) i ≡ v
-  stands v q = node-is (a .0) (a .1) ∙ q
-
-  at-new : r .kind ≡ 1 → nodeAt (arrayOf s t) i ≡ Node.new (r .name) (r .left)
-  unfolding nodeOf
-  at-new k = stands _ (rw k)
-
-  at-par : r .kind ≡ 2 → nodeAt (arrayOf s t) i ≡ Node.par (r .left) (r .right)
-  unfolding nodeOf
-  at-par k = stands _ (rw k)
-
-  at-choice : r .kind ≡ 3 → nodeAt (arrayOf s t) i ≡ Node.choice (r .left) (r .right)
-  unfolding nodeOf
-  at-choice k = stands _ (rw k)
-
   -- the tree at i, grown from its node
-  grown : (v : Node) → nodeAt (arrayOf s t) i ≡ v → procAt (arrayOf s t) i ≡ grow i (λ l. procAt (arrayOf s t) l) v
-  grown v q = procAt-grow (arrayOf s t) (a .0 .formed .children) i (a .1 .below) ∙ ap (grow i (λ l. procAt (arrayOf s t) l)) q
+  grown : (v : Node) → nodeOf r ≡ v → procAt (arrayOf s t) i ≡ grow i (λ l. procAt (arrayOf s t) l) v
+  grown v q =
+      procAt-grow (arrayOf s t) (a .0 .formed .children) i (a .1 .below) ∙ ap (grow i (λ l. procAt (arrayOf s t) l)) (node-is (a .0) (a .1) ∙ q)
+
+  -- the child that a choice goes to lies above it
+  pub side-above : isChoice (nodeOf r) ≡ true → (b : Bool) → (i < cond b (r .right) (r .left)) × (cond b (r .right) (r .left) < t .nodes)
+  unfolding isStop
+  side-above k true = right-above (a .0) (a .1) (or-right (isPar (nodeOf r)) _ k)
+  side-above k false = left-above (a .0) (a .1) (ap isStop (K.choice-is r k))
 
   module _ (ch : List ℕ) (m : ℕ) (env : List ℕ) where
-    by-node : (v : Node) → nodeAt (arrayOf s t) i ≡ v
+    by-node : (v : Node) → nodeOf r ≡ v
         → unfolded s t ch i m env ≡ unfoldProc (words []) (choicesOf ch) m env (grow i (λ l. procAt (arrayOf s t) l) v)
     unfolding unfolded
     by-node v q = ap (unfoldProc (words []) (choicesOf ch) m env) (grown v q)
 
-    pub unfolded-stop : r .kind ≡ 0 → unfolded s t ch i m env ≡ []
-    unfolding nodeOf grow unfoldProc
-    unfolded-stop k = by-node Node.stop (stands _ (rw k))
+    pub unfolded-stop : isStop (nodeOf r) ≡ true → unfolded s t ch i m env ≡ []
+    unfolding grow unfoldProc
+    unfolded-stop k = by-node Node.stop (K.stop-is r k)
 
-    pub unfolded-new : r .kind ≡ 1 → unfolded s t ch i m env ≡ unfolded s t ch (r .left) m (set env (r .name) (opening (r .name) m))
+    pub unfolded-new : isNewNode (nodeOf r) ≡ true
+        → unfolded s t ch i m env ≡ unfolded s t ch (r .left) m (set env (r .name) (opening (r .name) m))
     unfolding unfolded grow unfoldProc words
-    unfolded-new k = by-node _ (at-new k)
+    unfolded-new k = by-node _ (K.new-is r k)
 
-    unfolded-par : r .kind ≡ 2 → unfolded s t ch i m env ≡ unfolded s t ch (r .left) m env ++ unfolded s t ch (r .right) m env
+    pub unfolded-par : isPar (nodeOf r) ≡ true → unfolded s t ch i m env ≡ unfolded s t ch (r .left) m env ++ unfolded s t ch (r .right) m env
     unfolding unfolded grow unfoldProc
-    unfolded-par k = by-node _ (at-par k)
+    unfolded-par k = by-node _ (K.par-is r k)
 
-    pub count-par : r .kind ≡ 2 → length (unfolded s t ch i m env) ≡ length (unfolded s t ch (r .left) m env) + length (unfolded s t ch (r .right) m env)
-    count-par k = ap length (unfolded-par k) ∙ length-append (unfolded s t ch (r .left) m env) (unfolded s t ch (r .right) m env)
-
-    pub words-par : r .kind ≡ 2 → wordsOf (unfolded s t ch i m env) ≡ wordsOf (unfolded s t ch (r .left) m env) ++ wordsOf (unfolded s t ch (r .right) m env)
-    words-par k = ap wordsOf (unfolded-par k) ∙ words-append _ _
-
-    pub length-par : r .kind ≡ 2
-        → length (wordsOf (unfolded s t ch i m env)) ≡ length (wordsOf (unfolded s t ch (r .left) m env)) + length (wordsOf (unfolded s t ch (r .right) m env))
-    length-par k = ap length (words-par k) ∙ length-append (wordsOf (unfolded s t ch (r .left) m env)) _
-
-    pub unfolded-right : r .kind ≡ 3 → choicesOf ch i ≡ true → unfolded s t ch i m env ≡ unfolded s t ch (r .right) m env
+    pub unfolded-choice : isChoice (nodeOf r) ≡ true
+        → unfolded s t ch i m env ≡ unfolded s t ch (cond (choicesOf ch i) (r .right) (r .left)) m env
     unfolding unfolded grow unfoldProc
-    unfolded-right k b = by-node _ (at-choice k) ∙ rw b
+    unfolded-choice k = by-node _ (K.choice-is r k) ∙ pick (choicesOf ch i)
+      where
+        leaves : ℕ → Config ℕ ℕ
+        leaves l = unfoldProc (words []) (choicesOf ch) m env (procAt (arrayOf s t) l)
 
-    pub unfolded-left : r .kind ≡ 3 → choicesOf ch i ≡ false → unfolded s t ch i m env ≡ unfolded s t ch (r .left) m env
-    unfolding unfolded grow unfoldProc
-    unfolded-left k b = by-node _ (at-choice k) ∙ rw b
+        pick : (b : Bool) → cond b (leaves (r .right)) (leaves (r .left)) ≡ leaves (cond b (r .right) (r .left))
+        pick true = refl
+        pick false = refl
 
     abbrev one-thread : Proc → Config ℕ ℕ
     one-thread p = record { agent = i; marker = m; env = cutFrom (words []) (isFree p) 0 env } ∷ []
 
-    unfolded-agent : 3 < r .kind → unfolded s t ch i m env ≡ one-thread (procAt (arrayOf s t) i)
+    unfolded-agent : isAgent (nodeOf r) ≡ true → unfolded s t ch i m env ≡ one-thread (procAt (arrayOf s t) i)
     unfolding grow unfoldProc
-    unfolded-agent k =
-        let f : ℕ → Proc = λ l. procAt (arrayOf s t) l in
-        by-node (nodeOf r) (stands (nodeOf r) refl)
-        ∙ by-kind r (λ n v. 3 < n → unfoldProc (words []) (choicesOf ch) m env (grow i f v) ≡ one-thread (grow i f v))
-        (λ l. absurd (omega arith)) (λ l. absurd (omega arith)) (λ l. absurd (omega arith)) (λ l. absurd (omega arith))
-        (λ l. refl) (λ l. refl) (λ n g l. refl) k
-        ∙ sym (ap one-thread (grown (nodeOf r) (stands (nodeOf r) refl)))
+    unfolded-agent k = by-node _ (K.agent-is r k) ∙ sym (ap one-thread (grown _ (K.agent-is r k)))
 
-    pub count-agent : 3 < r .kind → length (unfolded s t ch i m env) ≡ 1
-    count-agent k = ap length (unfolded-agent k)
-
-    pub length-agent : 3 < r .kind → length (wordsOf (unfolded s t ch i m env)) ≡ 2 + length env
-    length-agent k = words-unfolded s t ch i m env ∙ ap (λ (n : ℕ). n * (2 + length env)) (count-agent k) ∙ one-mul _
-
-    -- an agent's thread, its names cut by its row of the table
-    pub words-agent : 3 < r .kind → (table : List ℕ) → AllFree table (arrayOf s t) → length env ≤ 256
-        → wordsOf (unfolded s t ch i m env) ≡ i ∷ m ∷ cutFrom (words []) (marked table (4 * i)) 0 env
+    -- an agent's thread, its names cut by its row of marks, written where there is room
+    pub written-agent : isAgent (nodeOf r) ≡ true → length env ≡ t .names → (frees : List ℕ) {l l′ : List ℕ} {k end : ℕ} → AllFree frees (arrayOf s t)
+        → (k * (2 + length env) + (2 + length env) ≤ length l
+        → l′ ≡ put (k * (2 + length env)) (i ∷ m ∷ cutFrom (words []) (marked frees (4 * i)) 0 env) l)
+        → end ≡ min 257 (k + 1) → Written (2 + t .names) (unfolded s t ch i m env) l l′ k end
     unfolding wordsOf
-    words-agent k table free few =
-        ap wordsOf (unfolded-agent k)
-        ∙ append-nil (i ∷ m ∷ cutFrom (words []) (isFree (procAt (arrayOf s t) i)) 0 env)
-        ∙ ap (λ (xs : List ℕ). i ∷ m ∷ xs) (cut-same (words []) _ _ 0 env (λ v l g. sym (free i v (a .1 .below) (omega arith))))
+    written-agent g names frees {l} {l′} {k} {end} free placed e =
+        let few = a .0 .formed .fewNames in
+        let one : length (unfolded s t ch i m env) ≡ 1 = ap length (unfolded-agent g) in
+        let ws : wordsOf (unfolded s t ch i m env) ≡ i ∷ m ∷ cutFrom (words []) (marked frees (4 * i)) 0 env =
+        ap wordsOf (unfolded-agent g) ∙ append-nil (i ∷ m ∷ cutFrom (words []) (isFree (procAt (arrayOf s t) i)) 0 env)
+        ∙ ap (λ (xs : List ℕ). i ∷ m ∷ xs) (cut-same (words []) _ _ 0 env (λ v h j. sym (free i v (a .1 .below) (omega arith)))) in
+        record {
+          counted = rw one e;
+          placed = λ h room.
+              rw (ws, ← names) (placed (rw names (rw (one, ← next-slot (t .names) k) at room)));
+        }
 
--- ---- what a writing leaves
+-- ---- what an unfolding asks and leaves
 
-pub laid-none : {env l : List ℕ} {at : ℕ} (xs : List ℕ) → xs ≡ [] → Laid xs env env l l at at
-laid-none {env} {l} {at} xs e = record { kept = refl; written = rw e (sym (put-nil at l)); stops = rw (e, add-zero) }
+-- a child in place of its parent
+pub below : {t : Trailer} {i m k j o : ℕ} {e d : List ℕ} → Unfolds t i m e k → j < t .nodes → length d ≡ length e → o ≤ 257 → Unfolds t j m d o
+below u h same few = record { node = h; marker = u .marker; names = same ∙ u .names; few = few }
 
-pub laid-same : {xs zs env env′ l l′ : List ℕ} {at end : ℕ} → Laid xs env env′ l l′ at end → zs ≡ xs → Laid zs env env′ l l′ at end
-laid-same d e = rw e d
+pub written-none : {w k : ℕ} {l : List ℕ} {c : Config ℕ ℕ} → c ≡ [] → k ≤ 257 → Written w c l l k k
+unfolding wordsOf
+written-none e h = record { counted = rw e (omega arith); placed = λ few room. rw e (sym (put-nil _ _)) }
 
--- a name was set before and is put back after
-pub laid-restored : {xs env′ l l′ : List ℕ} {at end : ℕ} (env : List ℕ) (v w : ℕ) → Laid xs (set env v w) env′ l l′ at end
-    → Laid xs env (set env′ v (getD env v 0)) l l′ at end
-laid-restored env v w d = record {
-  kept = ap (λ (k : List ℕ). set k v (getD env v 0)) (d .kept) ∙ set-set env v w (getD env v 0) ∙ set-getD env v 0;
-  written = d .written;
-  stops = d .stops;
-}
+pub written-same : {w k end : ℕ} {c d : Config ℕ ℕ} {l l′ : List ℕ} → Written w c l l′ k end → d ≡ c → Written w d l l′ k end
+written-same x e = rw e x
 
--- words, and more right behind them
-pub laid-both : {xs ys env env₁ env₂ l l₁ l₂ : List ℕ} {at mid end : ℕ} → at + length (xs ++ ys) ≤ length l → Laid xs env env₁ l l₁ at mid
-    → Laid ys env₁ env₂ l₁ l₂ mid end → Laid (xs ++ ys) env env₂ l l₂ at end
-laid-both {xs} {ys} {env} {env₁} {env₂} {l} {l₁} {l₂} {at} room d e =
-    let n = length-append xs ys in
+-- a name that was set is put back
+pub restored : (env : List ℕ) (v x : ℕ) {env′ : List ℕ} → env′ ≡ set env v x → set env′ v (getD env v 0) ≡ env
+restored env v x e = ap (λ (d : List ℕ). set d v (getD env v 0)) e ∙ set-set env v x (getD env v 0) ∙ set-getD env v 0
+
+-- threads, and more right behind them
+pub written-both : (n : ℕ) {k mid end : ℕ} {c d : Config ℕ ℕ} {l l₁ l₂ : List ℕ} → Wide n c → length l₁ ≡ length l
+    → Written (2 + n) c l l₁ k mid → Written (2 + n) d l₁ l₂ mid end → Written (2 + n) (c ++ d) l l₂ k end
+written-both n {k} {mid} {end} {c} {d} {l} {l₁} {l₂} wide same x y =
+    let both = length-append c d in
     record {
-      kept = e .kept ∙ d .kept;
-      written = e .written ∙ rw (d .stops, d .written) (put-put at xs l (omega arith) ys);
-      stops = e .stops ∙ rw (d .stops, length-append) (add-assoc _ _ _);
+      counted = omega (arith, x .counted, y .counted);
+      placed = λ few room.
+          let here : mid ≡ k + length c = omega (arith, x .counted) in
+          let all : mid + length d ≡ k + length (c ++ d) = omega arith in
+          let first : (k + length c) * (2 + n) ≤ (k + length (c ++ d)) * (2 + n) = mul-le-mul-right (2 + n) (omega arith) in
+          let size = length-words n c wide in
+          let at : (k + length c) * (2 + n) ≡ k * (2 + n) + length (wordsOf c) = add-mul k (length c) (2 + n) ∙ rw size in
+          y .placed (omega arith) (rw (all, same) room)
+          ∙ rw (here, at, x .placed (omega arith) (omega arith), words-append) (put-put (k * (2 + n)) (wordsOf c) l (omega arith) (wordsOf d));
     }

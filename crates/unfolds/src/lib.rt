@@ -1,5 +1,5 @@
-// Unfolding a node into threads, in place: first counted, then written. Recursive; the environment is changed at a new and put back.
-// Promises the words of the model's unfolding. Depends on frees, arrays, records, marks, model and laws.
+// Unfolding a node into threads: counted, and written in place where there is room. Recursive; the environment is changed at a new and
+// put back. Promises the words and the number of the model's threads. Depends on frees, arrays, records, marks, model and laws.
 ghost use mathlib.Core.Path.{_≡_};
 ghost use mathlib.Core.Bool.{cond};
 ghost use mathlib.Core.List.{[], _∷_};
@@ -8,48 +8,28 @@ ghost use lib.ListN.{length};
 ghost use Rattle.laws.specs.Lists.{put};
 ghost use Rattle.marks.specs.Marks.{marked};
 ghost use Rattle.model.specs.Calculus.{choicesOf, cutFrom};
-ghost use Rattle.model.specs.Memory.{words, wordsOf};
-ghost use Rattle.records.specs.Record.{arrayOf};
-ghost use Rattle.arrays.specs.File.{IsRead};
-ghost use Rattle.frees.specs.Frees.{AllFree};
-ghost use Rattle.unfolds.specs.Unfold.{unfolded, Laid};
+ghost use Rattle.model.specs.Memory.{words, opening};
+ghost use Rattle.unfolds.specs.Unfold.{Prepared, Unfolds, unfolded, Written};
+use records::Record;
 use records::Trailer;
 
-// Choice node i goes to the right.
-fn goes_right(choices: &[u8], i: usize) -> bool
+// The child that choice node i, whose record is r, goes to.
+fn chosen(choices: &[u8], i: usize, r: Record) -> usize
     requires { ⌜ i / 8 < length (now choices) ⌝ }
-    ensures { λ b. ⌜ b ≡ choicesOf (now (choices .entry)) i ⌝ }
+    ensures { λ j. ⌜ j ≡ cond (choicesOf (now (choices .entry)) i) (r .right) (r .left) ⌝ }
 {
-    (choices[i / 8] >> (i % 8)) % 2 == 1
+    if (choices[i / 8] >> (i % 8)) % 2 == 1 {
+        return r.right;
+    }
+    r.left
 }
 
-// How many threads node i unfolds to; 257 stands for more than 256.
-pub fn count_threads(file: &[u8], t: Trailer, choices: &[u8], i: usize) -> usize
-    requires { ⌜ IsRead (now file) t × (i < t .nodes) × (length (now choices) ≡ 128) ⌝ }
-    ensures { λ r. ⌜ r ≡ min 257 (length (unfolded (now (file .entry)) t (now (choices .entry)) i 0 [])) ⌝ }
+// The word of name v, opened under a marker.
+fn opened_word(v: usize, mark: u32) -> u32
+    requires { ⌜ (v < 256) × (mark < 65536) ⌝ }
+    ensures { λ x. ⌜ x ≡ opening v mark ⌝ }
 {
-    let r = records::record_at(file, t.start + 16 * i);
-    if r.kind == 0 {
-        return 0;
-    }
-    if r.kind == 1 {
-        return count_threads(file, t, choices, r.left);
-    }
-    if r.kind == 2 {
-        let all = count_threads(file, t, choices, r.left)
-            + count_threads(file, t, choices, r.right);
-        if 257 <= all {
-            return 257;
-        }
-        return all;
-    }
-    if r.kind == 3 {
-        if goes_right(choices, i) {
-            return count_threads(file, t, choices, r.right);
-        }
-        return count_threads(file, t, choices, r.left);
-    }
-    1
+    1 + 65536 * (v as u32) + mark
 }
 
 // A name's word where it is kept, else 0.
@@ -63,69 +43,109 @@ fn word_if(on: bool, x: u32) -> u32
 }
 
 // Writes the words of the names from index `at` on, cut to those marked in the row at `row`.
-fn write_names(table: &[u64], row: usize, env: &[u32], threads: &mut [u32], at: usize)
-    requires { ⌜ (row + 3 < length (now table)) × (length (now env) ≤ 256) × (at + length (now env) ≤ length (now threads)) ⌝ }
-    ensures { λ _. ⌜ now (threads .exit) ≡ put at (cutFrom (words []) (marked (now (table .entry)) row) 0 (now (env .entry))) (now (threads .entry)) ⌝ }
+fn write_names(frees: &[u64], row: usize, env: &[u32], threads: &mut [u32], at: usize)
+    requires { ⌜ (row + 3 < length (now frees)) × (length (now env) ≤ 256) × (at + length (now env) ≤ length (now threads)) ⌝ }
+    ensures { λ _. ⌜ now (threads .exit) ≡ put at (cutFrom (words []) (marked (now (frees .entry)) row) 0 (now (env .entry))) (now (threads .entry)) ⌝ }
 {
     let mut v: usize = 0;
     while v < env.len() {
-        let on = marks::is_marked(table, row, v);
+        let on = marks::is_marked(frees, row, v);
         threads[at + v] = word_if(on, env[v]);
         v += 1;
     }
 }
 
 // Writes a thread of node i from index `at` on.
-fn write_thread(table: &[u64], i: usize, mark: u32, env: &[u32], threads: &mut [u32], at: usize)
-    requires { ⌜ (4 * i + 3 < length (now table)) × (i < 1024) × (length (now env) ≤ 256) × (at + 2 + length (now env) ≤ length (now threads)) ⌝ }
+fn write_thread(frees: &[u64], i: usize, mark: u32, env: &[u32], threads: &mut [u32], at: usize)
+    requires { ⌜ (4 * i + 3 < length (now frees)) × (i < 1024) × (length (now env) ≤ 256) × (at + 2 + length (now env) ≤ length (now threads)) ⌝ }
     ensures { λ _. ⌜ now (threads .exit)
-        ≡ put at (i ∷ mark ∷ cutFrom (words []) (marked (now (table .entry)) (4 * i)) 0 (now (env .entry))) (now (threads .entry)) ⌝ }
+        ≡ put at (i ∷ mark ∷ cutFrom (words []) (marked (now (frees .entry)) (4 * i)) 0 (now (env .entry))) (now (threads .entry)) ⌝ }
 {
     threads[at] = i as u32;
     threads[at + 1] = mark;
-    write_names(table, 4 * i, env, threads, at + 2);
+    write_names(frees, 4 * i, env, threads, at + 2);
 }
 
-// Writes the threads of node i under a marker and an environment from index `at` on, and returns the index behind them.
+// Writes it as thread k of the list, where there is room.
+fn place_thread(frees: &[u64], i: usize, mark: u32, env: &[u32], threads: &mut [u32], k: usize)
+    requires { ⌜ (4 * i + 3 < length (now frees)) × (i < 1024) × (length (now env) ≤ 256) × (k ≤ 257) ⌝ }
+    ensures { λ _. ⌜ (k * (2 + length (now (env .entry))) + (2 + length (now (env .entry))) ≤ length (now (threads .entry)) → now (threads .exit)
+        ≡ put (k * (2 + length (now (env .entry))))
+        (i ∷ mark ∷ cutFrom (words []) (marked (now (frees .entry)) (4 * i)) 0 (now (env .entry))) (now (threads .entry))) ⌝ }
+{
+    let width = 2 + env.len();
+    let at = k * width;
+    if at + width <= threads.len() {
+        write_thread(frees, i, mark, env, threads, at);
+    }
+}
+
+// One thread more; 257 stands for more than 256.
+fn one_more(k: usize) -> usize
+    ensures { λ r. ⌜ r ≡ min 257 (k + 1) ⌝ }
+{
+    if k < 257 {
+        return k + 1;
+    }
+    257
+}
+
+// Writes the threads of node i under a marker and an environment as thread k and those behind it, where there is room for all, and
+// returns how many threads there are then; 257 stands for more than 256.
 pub fn unfold_node(
     file: &[u8],
     t: Trailer,
-    table: &[u64],
+    frees: &[u64],
     choices: &[u8],
     i: usize,
     mark: u32,
     env: &mut [u32],
     threads: &mut [u32],
-    at: usize,
+    k: usize,
 ) -> usize
-    requires { ⌜ IsRead (now file) t × (i < t .nodes) × (length (now choices) ≡ 128) × (mark < 65536) × (length (now env) ≡ t .names) ⌝ }
-    requires { ⌜ (length (now table) ≡ 4096) × AllFree (now table) (arrayOf (now file) t) ⌝ }
-    requires { ⌜ at + length (wordsOf (unfolded (now file) t (now choices) i mark (now env))) ≤ length (now threads) ⌝ }
-    ensures { λ r. ⌜ Laid (wordsOf (unfolded (now (file .entry)) t (now (choices .entry)) i mark (now (env .entry))))
-        (now (env .entry)) (now (env .exit)) (now (threads .entry)) (now (threads .exit)) at r ⌝ }
+    requires { ⌜ Prepared (now file) t (now frees) (now choices) × Unfolds t i mark (now env) k ⌝ }
+    ensures { λ r. ⌜ (now (env .exit) ≡ now (env .entry)) × Written (2 + t .names)
+        (unfolded (now (file .entry)) t (now (choices .entry)) i mark (now (env .entry))) (now (threads .entry)) (now (threads .exit)) k r ⌝ }
 {
-    let r = records::record_at(file, t.start + 16 * i);
-    if r.kind == 0 {
-        return at;
+    let r = records::node_at(file, t, i);
+    if records::is_stop(r) {
+        return k;
     }
-    if r.kind == 1 {
+    if records::is_new(r) {
         let v = r.name;
         let old = env[v];
-        env[v] = 1 + 65536 * (v as u32) + mark;
-        let end = unfold_node(file, t, table, choices, r.left, mark, env, threads, at);
+        env[v] = opened_word(v, mark);
+        let end = unfold_node(file, t, frees, choices, r.left, mark, env, threads, k);
         env[v] = old;
         return end;
     }
-    if r.kind == 2 {
-        let mid = unfold_node(file, t, table, choices, r.left, mark, env, threads, at);
-        return unfold_node(file, t, table, choices, r.right, mark, env, threads, mid);
+    if records::is_par(r) {
+        let mid = unfold_node(file, t, frees, choices, r.left, mark, env, threads, k);
+        return unfold_node(file, t, frees, choices, r.right, mark, env, threads, mid);
     }
-    if r.kind == 3 {
-        if goes_right(choices, i) {
-            return unfold_node(file, t, table, choices, r.right, mark, env, threads, at);
-        }
-        return unfold_node(file, t, table, choices, r.left, mark, env, threads, at);
+    if records::is_choice(r) {
+        let side = chosen(choices, i, r);
+        return unfold_node(file, t, frees, choices, side, mark, env, threads, k);
     }
-    write_thread(table, i, mark, env, threads, at);
-    at + 2 + env.len()
+    place_thread(frees, i, mark, env, threads, k);
+    one_more(k)
+}
+
+// The number alone: how many threads there are with those of node i behind k others.
+pub fn count_threads(
+    file: &[u8],
+    t: Trailer,
+    frees: &[u64],
+    choices: &[u8],
+    i: usize,
+    mark: u32,
+    env: &mut [u32],
+    k: usize,
+) -> usize
+    requires { ⌜ Prepared (now file) t (now frees) (now choices) × Unfolds t i mark (now env) k ⌝ }
+    ensures { λ r. ⌜ (now (env .exit) ≡ now (env .entry))
+        × (r ≡ min 257 (k + length (unfolded (now (file .entry)) t (now (choices .entry)) i mark (now (env .entry))))) ⌝ }
+{
+    let mut nowhere = [0u32; 1];
+    unfold_node(file, t, frees, choices, i, mark, env, &mut nowhere, k)
 }

@@ -7,6 +7,7 @@ use engine::Allowance;
 use engine::Turn;
 use handover::StartAnswer;
 use handover::StrideAnswer;
+use lent::Counts;
 use libc::STDIN_FILENO;
 use libc::STDOUT_FILENO;
 use model::Ending;
@@ -33,26 +34,20 @@ fn print_end(ending: Ending, steps: u32) {
 // The walk, told step by step.
 fn print_walk(array: &[u8], choices: &[u8], threads: &mut [u32], count: usize) {
     let mut markers = [0u16; 4096];
-    let mut used = count;
-    let mut noted: usize = 0;
+    let mut counts = Counts {
+        threads: count,
+        markers: 0,
+    };
     let mut allowance = Allowance::new(100);
     loop {
-        let stride = handover::stride(
-            array,
-            choices,
-            threads,
-            used,
-            &mut markers,
-            noted,
-            allowance,
-        );
+        let stride = handover::stride(array, choices, threads, &mut markers, counts, allowance);
         match stride {
             StrideAnswer::Ended(ending, steps) => return print_end(ending, steps),
             StrideAnswer::Refused(r) => return print_refused(r),
             StrideAnswer::Made(t) => {
                 print_turn(t);
-                used = t.threads;
-                noted = t.markers;
+                let left = t.counts;
+                counts = left;
                 let lessened = t.allowance;
                 allowance = lessened;
             }

@@ -5,36 +5,22 @@ ghost use mathlib.Core.Bool.{_||_};
 ghost use Prim.Native.Nat.{_+_, _*_, _≤_, _%_};
 ghost use lib.ListN.{length};
 ghost use lib.Dec.{eqb};
-ghost use Rattle.model.specs.Tree.{isAgent, nodeAt};
-ghost use Rattle.records.specs.Record.{arrayOf, foundOf};
-ghost use Rattle.layout.specs.Table.{claimAt, weightAt, weightsFit, claimFits, refusal20, refusal21};
+ghost use Rattle.records.specs.Record.{arrayOf, foundOf, RecordsFit};
+ghost use Rattle.layout.specs.Table.{weightAt, weightsFit, claimFits, refusal20, refusal21, Laid};
 use layout::Sizes;
 use records::Check;
 use records::Refusal;
 use records::Trailer;
 
-// Node i is an agent.
-fn is_agent(file: &[u8], t: Trailer, i: usize) -> bool
-    requires { ⌜ t .start + 16 * t .nodes ≤ length (now file) ⌝ }
-    ensures { λ b. ⌜ b ≡ isAgent (nodeAt (arrayOf (now (file .entry)) t) i) ⌝ }
-{
-    if t.nodes <= i {
-        return false;
-    }
-    let r = records::record_at(file, t.start + 16 * i);
-    4 <= r.kind
-}
-
 // In the balance at `at`, only agents have a weight.
 fn weights_fit(file: &[u8], t: Trailer, table: &[u8], at: usize) -> bool
-    requires { ⌜ t .start + 16 * t .nodes ≤ length (now file) ⌝ }
-    requires { ⌜ at + 4 + 2 * t .nodes ≤ length (now table) ⌝ }
+    requires { ⌜ RecordsFit (now file) t × (at + 4 + 2 * t .nodes ≤ length (now table)) ⌝ }
     ensures { λ b. ⌜ b ≡ weightsFit (arrayOf (now (file .entry)) t) (now (table .entry)) at ⌝ }
 {
     let mut fits = true;
     let mut i: usize = 0;
     while i < t.nodes {
-        let agent = is_agent(file, t, i);
+        let agent = records::is_agent(records::node_or_stop(file, t, i));
         fits = fits & (agent | (wire::u16_at(table, at + 4 + 2 * i) == 0));
         i += 1;
     }
@@ -54,14 +40,12 @@ fn padding_fits(nodes: usize, table: &[u8], at: usize) -> bool
 
 // Refusal 20.
 pub fn bad_balance(file: &[u8], t: Trailer, table: &[u8], z: Sizes) -> Check
-    requires { ⌜ (t .start + 16 * t .nodes ≤ length (now file)) × (t .start ≤ 1024) × (t .nodes ≤ 1024) ⌝ }
-    requires { ⌜ (z .nodes ≡ t .nodes) × (z .names ≤ 256) × (claimAt z 0 ≤ length (now table)) ⌝ }
+    requires { ⌜ RecordsFit (now file) t × (t .nodes ≤ 1024) × (t .names ≤ 256) × Laid t (now table) z ⌝ }
     ensures { λ r. ⌜ foundOf r ≡ refusal20 (arrayOf (now (file .entry)) t) (now (table .entry)) z ⌝ }
 {
-    let size = layout::balance_size(z);
-    let mut at = 32 * z.names;
     let mut k: usize = 0;
     while k < z.balances {
+        let at = layout::balance_at(z, k);
         let weights = weights_fit(file, t, table, at);
         let padding = padding_fits(t.nodes, table, at);
         if !(weights & padding) {
@@ -70,7 +54,6 @@ pub fn bad_balance(file: &[u8], t: Trailer, table: &[u8], z: Sizes) -> Check
                 place: k,
             });
         }
-        at += size;
         k += 1;
     }
     Check::Passed
@@ -78,26 +61,24 @@ pub fn bad_balance(file: &[u8], t: Trailer, table: &[u8], z: Sizes) -> Check
 
 // The claim at `at` names an agent and a balance, and ends with zero.
 fn claim_fits(file: &[u8], t: Trailer, table: &[u8], balances: usize, at: usize) -> bool
-    requires { ⌜ t .start + 16 * t .nodes ≤ length (now file) ⌝ }
-    requires { ⌜ at + 8 ≤ length (now table) ⌝ }
+    requires { ⌜ RecordsFit (now file) t × (at + 8 ≤ length (now table)) ⌝ }
     ensures { λ b. ⌜ b ≡ claimFits (arrayOf (now (file .entry)) t) (now (table .entry)) balances at ⌝ }
 {
-    let agent = is_agent(file, t, wire::u16_at(table, at));
+    let agent = wire::u16_at(table, at);
+    let named = records::is_agent(records::node_or_stop(file, t, agent));
     let balance = wire::u16_at(table, at + 4);
     let last = wire::u16_at(table, at + 6);
-    agent & (balance < balances) & (last == 0)
+    named & (balance < balances) & (last == 0)
 }
 
 // Refusal 21.
 pub fn bad_claim(file: &[u8], t: Trailer, table: &[u8], z: Sizes) -> Check
-    requires { ⌜ (t .start + 16 * t .nodes ≤ length (now file)) × (t .start ≤ 1024) × (t .nodes ≤ 1024) ⌝ }
-    requires { ⌜ (z .nodes ≡ t .nodes) × (z .names ≤ 256) × (z .balances ≤ 24) × (claimAt z (z .claims) ≤ length (now table)) ⌝ }
+    requires { ⌜ RecordsFit (now file) t × (t .nodes ≤ 1024) × (t .names ≤ 256) × Laid t (now table) z ⌝ }
     ensures { λ r. ⌜ foundOf r ≡ refusal21 (arrayOf (now (file .entry)) t) (now (table .entry)) z ⌝ }
 {
-    let start = layout::claims_at(z);
     let mut c: usize = 0;
     while c < z.claims {
-        if !claim_fits(file, t, table, z.balances, start + 8 * c) {
+        if !claim_fits(file, t, table, z.balances, layout::claim_at(z, c)) {
             return Check::Refused(Refusal {
                 number: 21,
                 place: c,

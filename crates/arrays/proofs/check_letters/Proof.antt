@@ -1,5 +1,4 @@
 -- Refusals 2 and 3 by their tests, then the rest.
-use mathlib.Core.Path.{sym, _∙_}
 use borrow.Author.Tests.{eq-eqb, ne-eqb, not-true, not-false}
 use Rattle.arrays.proofs.Laws.{counts-fit}
 use Rattle.records.proofs.Checks.{fails, holds}
@@ -8,26 +7,13 @@ use borrow.Author.Needs.{needs}
 use Rattle.arrays.proofs.check_letters.Statement.{statement}
 use Rattle.arrays.proofs.check_letters.Tie as tie
 
-sub-u32-at : tie.Need-sub-u32-at
-sub-u32-at c = search needs
-
-u32-at-requires : tie.Need-u32-at-requires
-u32-at-requires c κs = search needs
-
-refused-requires : tie.Need-refused-requires
-refused-requires c κs = search needs
-
 returns : tie.Need-returns
 returns c =
-    fails 2 _ _ (c .refused .result) (c .refused .ensures) (ne-eqb _ _ (λ e. c .before .if1 .taken (c .before .before .u32-at .ensures ∙ e)))
-
-refused-requires-2 : tie.Need-refused-requires-2
-refused-requires-2 c κs = search needs
+    fails 2 _ _ (c .refused .result) (c .refused .ensures) (ne-eqb _ _ (c .before .if1 .taken))
 
 returns-2 : tie.Need-returns-2
 returns-2 c =
-    holds 2 _ _ (eq-eqb _ _ (sym (c .before .before .before .before .before .before .u32-at .ensures)
-    ∙ c .before .before .before .before .before .if1 .left))
+    holds 2 _ _ (eq-eqb _ _ (c .before .before .before .before .before .if1 .left))
     (fails 3 _ _ (c .refused2 .result) (c .refused2 .ensures) (not-true _ (c .before .if2 .taken)))
 
 check-sum-requires : tie.Need-check-sum-requires
@@ -38,18 +24,7 @@ check-sum-requires c κs =
 
 returns-3 : tie.Need-returns-3
 returns-3 c =
-    holds 2 _ _ (eq-eqb _ _ (sym (c .before .before .before .before .before .before .u32-at .ensures)
-    ∙ c .before .before .before .before .before .if1 .left)) (holds 3 _ _ (not-false _ (c .before .if2 .left)) (c .check-sum .ensures))
+    holds 2 _ _ (eq-eqb _ _ (c .before .before .before .before .before .if1 .left)) (holds 3 _ _ (not-false _ (c .before .if2 .left)) (c .check-sum .ensures))
 
 pub check-letters-spec : {M : Type 1} → statement M
-check-letters-spec =
-    tie.close
-    (tie.spec
-    sub-u32-at
-    u32-at-requires
-    refused-requires
-    returns
-    refused-requires-2
-    returns-2
-    check-sum-requires
-    returns-3)
+check-letters-spec = tie.close (tie.spec (λ c κs. search needs) returns (λ c κs. search needs) returns-2 check-sum-requires returns-3)

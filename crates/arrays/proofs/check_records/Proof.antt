@@ -7,26 +7,11 @@ use borrow.Author.Needs.{needs}
 use Rattle.arrays.proofs.check_records.Statement.{statement}
 use Rattle.arrays.proofs.check_records.Tie as tie
 
-first-bad-requires : tie.Need-first-bad-requires
-first-bad-requires c κs = search needs
-
-enum-known-r : tie.Need-enum-known-r
-enum-known-r c = search needs
-
 returns : tie.Need-returns
 returns c =
     let x = c .before .before .before .before .before .args in
     refuses _ _ (c .before .before .before .first-bad .result) (c .before .r .given .0 .0)
     (c .before .before .before .first-bad .ensures ∙ first-bad-6 (now (x .file)) (x .t)) (c .before .r .given .1)
-
-enum-told : tie.Need-enum-told
-enum-told c = search needs
-
-first-bad-requires-2 : tie.Need-first-bad-requires-2
-first-bad-requires-2 c κs = search needs
-
-enum-known-r-2 : tie.Need-enum-known-r-2
-enum-known-r-2 c = search needs
 
 returns-2 : tie.Need-returns-2
 returns-2 c =
@@ -36,12 +21,6 @@ returns-2 c =
     (c .before .before .before .before .enum-told .given .1))
     (refuses _ _ (c .before .before .before .first-bad2 .result) (c .before .r2 .given .0 .0)
     (c .before .before .before .first-bad2 .ensures ∙ first-bad-7 (now (x .file)) (x .t)) (c .before .r2 .given .1))
-
-enum-told-2 : tie.Need-enum-told-2
-enum-told-2 c = search needs
-
-check-tree-requires : tie.Need-check-tree-requires
-check-tree-requires c κs = search needs
 
 returns-3 : tie.Need-returns-3
 returns-3 c =
@@ -56,13 +35,5 @@ pub check-records-spec : {M : Type 1} → statement M
 check-records-spec =
     tie.close
     (tie.spec
-    first-bad-requires
-    enum-known-r
-    returns
-    enum-told
-    first-bad-requires-2
-    enum-known-r-2
-    returns-2
-    enum-told-2
-    check-tree-requires
-    returns-3)
+    (λ c κs. search needs) (λ c. search needs) returns (λ c. search needs) (λ c κs. search needs) (λ c. search needs) returns-2
+    (λ c. search needs) (λ c κs. search needs) returns-3)

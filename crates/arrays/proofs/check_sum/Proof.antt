@@ -9,35 +9,15 @@ use borrow.Author.Needs.{needs}
 use Rattle.arrays.proofs.check_sum.Statement.{statement}
 use Rattle.arrays.proofs.check_sum.Tie as tie
 
-mul-if1 : tie.Need-mul-if1
-mul-if1 c = search needs
-
-add-if1 : tie.Need-add-if1
-add-if1 c = search needs
-
-add-if1-2 : tie.Need-add-if1-2
-add-if1-2 c = search needs
-
-refused-requires : tie.Need-refused-requires
-refused-requires c κs = search needs
-
 returns : tie.Need-returns
 returns c =
     fails 4 _ _ (c .refused .result) (c .refused .ensures) (not-true _ (c .before .if1 .taken))
 
-sub-word-sum : tie.Need-sub-word-sum
-sub-word-sum c = search needs
-
-word-sum-requires : tie.Need-word-sum-requires
-word-sum-requires c κs = search needs
-
-refused-requires-2 : tie.Need-refused-requires-2
-refused-requires-2 c κs = search needs
-
 returns-2 : tie.Need-returns-2
 returns-2 c =
     holds 4 _ _ (not-false _ (c .before .before .before .before .if1 .left))
-    (fails 5 _ _ (c .refused2 .result) (c .refused2 .ensures) (ne-eqb _ _ (λ e. c .before .if2 .taken (e ∙ sym (c .before .before .before .word-sum .ensures)))))
+    (fails 5 _ _ (c .refused2 .result) (c .refused2 .ensures)
+    (ne-eqb _ _ (λ e. c .before .if2 .taken (e ∙ sym (c .before .before .before .word-sum .ensures)))))
 
 check-records-requires : tie.Need-check-records-requires
 check-records-requires c κs =
@@ -54,14 +34,5 @@ pub check-sum-spec : {M : Type 1} → statement M
 check-sum-spec =
     tie.close
     (tie.spec
-    mul-if1
-    add-if1
-    add-if1-2
-    refused-requires
-    returns
-    sub-word-sum
-    word-sum-requires
-    refused-requires-2
-    returns-2
-    check-records-requires
-    returns-3)
+    (λ c. search needs) (λ c. search needs) (λ c. search needs) (λ c κs. search needs) returns (λ c. search needs) (λ c κs. search needs)
+    (λ c κs. search needs) returns-2 check-records-requires returns-3)

@@ -24,12 +24,6 @@ check-letters-requires : tie.Need-check-letters-requires
 check-letters-requires c κs =
     (length-fits (now (c .before .before .before .args .file)) (not-false _ (c .before .if1 .left)), c .read-trailer .ensures .1)
 
-enum-told : tie.Need-enum-told
-enum-told c = search needs
-
-enum-known-r : tie.Need-enum-known-r
-enum-known-r c = search needs
-
 returns-2 : tie.Need-returns-2
 returns-2 c =
     let s = now (c .before .before .before .before .before .before .args .file) in
@@ -50,10 +44,4 @@ pub read-array-spec : {M : Type 1} → statement M
 read-array-spec =
     tie.close
     (tie.spec
-    returns
-    read-trailer-requires
-    check-letters-requires
-    enum-told
-    enum-known-r
-    returns-2
-    returns-3)
+    returns read-trailer-requires check-letters-requires (λ c. search needs) (λ c. search needs) returns-2 returns-3)

@@ -10,24 +10,12 @@ use borrow.Author.Needs.{needs}
 use Rattle.arrays.proofs.remark.Statement.{statement}
 use Rattle.arrays.proofs.remark.Tie as tie
 
-read-array-requires : tie.Need-read-array-requires
-read-array-requires c κs = search needs
-
-enum-known-t : tie.Need-enum-known-t
-enum-known-t c = search needs
-
 slice-aggregate-result : tie.Need-slice-aggregate-result
 slice-aggregate-result c =
     let s = now (c .before .before .before .before .before .before .args .file) in
     let t = c .before .before .t .given .0 .0 in
     let e : readArray s ≡ Read t = sym (c .before .before .before .before .read-array .ensures) ∙ c .before .before .t .given .1 in
     sym (length-take-le _ s (omega (arith, read-is s t e .fills)))
-
-enum-told : tie.Need-enum-told
-enum-told c = search needs
-
-slice-aggregate-result-2 : tie.Need-slice-aggregate-result-2
-slice-aggregate-result-2 c = search needs
 
 returns : tie.Need-returns
 returns c =
@@ -43,10 +31,4 @@ pub remark-spec : {M : Type 1} → statement M
 remark-spec =
     tie.close
     (tie.spec
-    read-array-requires
-    enum-known-t
-    slice-aggregate-result
-    enum-told
-    slice-aggregate-result-2
-    returns
-    returns-2)
+    (λ c κs. search needs) (λ c. search needs) slice-aggregate-result (λ c. search needs) (λ c. search needs) returns returns-2)

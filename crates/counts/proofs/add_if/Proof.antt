@@ -8,24 +8,6 @@ use borrow.Author.Needs.{needs}
 use Rattle.counts.proofs.add_if.Statement.{statement}
 use Rattle.counts.proofs.add_if.Tie as tie
 
-mul-table : tie.Need-mul-table
-mul-table c = search needs
-
-slice-read-table : tie.Need-slice-read-table
-slice-read-table c = search needs
-
-add-table : tie.Need-add-table
-add-table c = search needs
-
-mul-table-2 : tie.Need-mul-table-2
-mul-table-2 c = search needs
-
-slice-write-table : tie.Need-slice-write-table
-slice-write-table c = search needs
-
-same-length : tie.Need-same-length
-same-length c = search needs
-
 returns : tie.Need-returns
 returns c = rw (c .before .before .if1 .taken) (grown-set (now (c .before .before .before .args .table)) (c .before .before .before .args .at))
 
@@ -40,12 +22,5 @@ pub add-if-spec : {M : Type 1} → statement M
 add-if-spec =
     tie.close
     (tie.spec
-    mul-table
-    slice-read-table
-    add-table
-    mul-table-2
-    slice-write-table
-    same-length
-    returns
-    returns-2
+    (λ c. search needs) (λ c. search needs) (λ c. search needs) (λ c. search needs) (λ c. search needs) (λ c. search needs) returns returns-2
     returns-3)

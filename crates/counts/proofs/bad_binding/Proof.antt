@@ -10,15 +10,6 @@ use borrow.Author.Needs.{needs}
 use Rattle.counts.proofs.bad_binding.Statement.{statement}
 use Rattle.counts.proofs.bad_binding.Tie as tie
 
-count-binders-requires : tie.Need-count-binders-requires
-count-binders-requires c κs = search needs
-
-slice-aggregate-first-not-one : tie.Need-slice-aggregate-first-not-one
-slice-aggregate-first-not-one c = search needs
-
-first-not-one-requires : tie.Need-first-not-one-requires
-first-not-one-requires c κs = search needs
-
 returns : tie.Need-returns
 unfolding refusal11
 returns c =
@@ -28,6 +19,4 @@ returns c =
     (λ k l. ap₂ (λ (b : Bool) (x : ℕ). refuse 11 k (b || eqb x 1)) (leb·suc-zero k) (c .before .before .count-binders .ensures k (omega arith)))
 
 pub bad-binding-spec : {M : Type 1} → statement M
-bad-binding-spec =
-    tie.close
-    (tie.spec count-binders-requires slice-aggregate-first-not-one first-not-one-requires returns)
+bad-binding-spec = tie.close (tie.spec (λ c κs. search needs) (λ c. search needs) (λ c κs. search needs) returns)

@@ -11,15 +11,6 @@ use borrow.Author.Needs.{needs}
 use Rattle.counts.proofs.bad_parent.Statement.{statement}
 use Rattle.counts.proofs.bad_parent.Tie as tie
 
-count-fields-requires : tie.Need-count-fields-requires
-count-fields-requires c κs = search needs
-
-slice-aggregate-first-not-one : tie.Need-slice-aggregate-first-not-one
-slice-aggregate-first-not-one c = search needs
-
-first-not-one-requires : tie.Need-first-not-one-requires
-first-not-one-requires c κs = search needs
-
 returns : tie.Need-returns
 unfolding refusal9
 returns c =
@@ -29,6 +20,4 @@ returns c =
     (λ k l. ap₂ (λ (b : Bool) (x : ℕ). refuse 9 k (b || eqb x 1)) (below-one k) (c .before .before .count-fields .ensures k (omega arith)))
 
 pub bad-parent-spec : {M : Type 1} → statement M
-bad-parent-spec =
-    tie.close
-    (tie.spec count-fields-requires slice-aggregate-first-not-one first-not-one-requires returns)
+bad-parent-spec = tie.close (tie.spec (λ c κs. search needs) (λ c. search needs) (λ c κs. search needs) returns)

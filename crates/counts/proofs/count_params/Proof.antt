@@ -11,39 +11,32 @@ use Rattle.counts.proofs.count_params.Statement.{statement}
 use Rattle.counts.proofs.count_params.Tie as tie
 
 abbrev Inv-loop : tie.InvT-loop
-Inv-loop table₀ r args k₀ table k = (k ≤ 8) × Counted table₀ table (paramAt r) k
+Inv-loop table₀ r args binds k₀ table k = (k ≤ 8) × Counted table₀ table (paramAt r) k
 
 abbrev μ-loop : tie.MeasureT-loop
-μ-loop table₀ r args k₀ table k = 8 - k
+μ-loop table₀ r args binds k₀ table k = 8 - k
+
+-- stations
+abbrev at-start : tie.After-add-if-arg Inv-loop μ-loop → tie.Start Inv-loop μ-loop
+at-start c = c .before .before .before .before .before .before
 
 loop-holds : tie.Need-loop-holds Inv-loop μ-loop
-loop-holds c = (search needs, counted-none (now (c .before .before .args .table)) (paramAt (c .before .before .args .r)))
-
-array-read-wide : tie.Need-array-read-wide Inv-loop μ-loop
-array-read-wide c = search needs
-
-wide-requires : tie.Need-wide-requires Inv-loop μ-loop
-wide-requires c κs = search needs
+loop-holds c = (search needs, counted-none (now (c .before .before .before .args .table)) (paramAt (c .before .before .before .args .r)))
 
 add-if-requires : tie.Need-add-if-requires Inv-loop μ-loop
 add-if-requires c κs =
     let start = c .before .before .before .before .before .before .before .before in
-    let at = c .before .before .before .before .before .loop in
+    let at = c .before .before .before .before .loop in
     counted-below (now (start .args .table)) (at .table) (paramAt (start .args .r)) (at .k) (at .inv .1) 65000 1 65535 (start .pre)
-    (λ k v. one-le _) (omega arith) (c .wide .result)
-
-add-k : tie.Need-add-k Inv-loop μ-loop
-add-k c = search needs
-
-loop-less : tie.Need-loop-less Inv-loop μ-loop
-loop-less c = search needs
+    (λ k v. one-le _) (omega arith) (c .byte-index .result)
 
 loop-again : tie.Need-loop-again Inv-loop μ-loop
 loop-again c =
-    let x = c .before .before .before .before .before .before .before .before .before .before .before .args in
-    let at = c .before .before .before .before .before .before .before .before .loop in
+    let x = at-start (c .before .before .before .before .before) .args in
+    let at = c .before .before .before .before .before .before .before .loop in
     let a = c .before .before .add-if in
-    let grown = rw (c .before .before .before .wide .ensures .0) at (a .ensures) in
+    let binds = c .before .before .before .before .before .before .before .before .receives .ensures in
+    let grown = rw (binds, c .before .before .before .byte-index .ensures .0) at (a .ensures) in
     (search needs, counted-more (now (x .table)) (at .table) (paramAt (x .r)) (at .k) (at .inv .1) (a .last .0) (a .kept .0) grown)
 
 same-length : tie.Need-same-length Inv-loop μ-loop
@@ -51,7 +44,7 @@ same-length c = c .before .loop .inv .1 .0
 
 returns : tie.Need-returns Inv-loop μ-loop
 returns c v l =
-    let x = c .before .before .before .before .args in
+    let x = c .before .before .before .before .before .args in
     let e : c .before .loop .k ≡ 8 = omega arith in
     let h : length (x .r .args) ≡ 8 = search needs in
     (rw e at (c .before .loop .inv .1 .1)) v l ∙ ap (λ (n : ℕ). getD (now (x .table)) v 0 + n) (sym (times-params (x .r) h v))
@@ -60,14 +53,5 @@ pub count-params-spec : {M : Type 1} → statement M
 count-params-spec =
     tie.close
     (tie.spec
-    Inv-loop
-    μ-loop
-    loop-holds
-    array-read-wide
-    wide-requires
-    add-if-requires
-    add-k
-    loop-less
-    loop-again
-    same-length
-    returns)
+    Inv-loop μ-loop (λ c κs. search needs) loop-holds (λ c. search needs) (λ c κs. search needs) add-if-requires (λ c. search needs)
+    (λ c. search needs) loop-again same-length returns)

@@ -19,38 +19,20 @@ abbrev μ-loop : tie.MeasureT-loop
 loop-holds : tie.Need-loop-holds Inv-loop μ-loop
 loop-holds c = (search needs, first-zero _)
 
-mul-record-at : tie.Need-mul-record-at Inv-loop μ-loop
-mul-record-at c = search needs
-
-add-record-at : tie.Need-add-record-at Inv-loop μ-loop
-add-record-at c = search needs
-
-record-at-requires : tie.Need-record-at-requires Inv-loop μ-loop
-record-at-requires c κs = search needs
-
-node-passes-requires : tie.Need-node-passes-requires Inv-loop μ-loop
-node-passes-requires c κs = search needs
-
 returns : tie.Need-returns Inv-loop μ-loop
 unfolding firstBad badAt
 returns c =
-    let x = c .before .before .before .before .before .before .before .before .args in
-    let at = c .before .before .before .before .before .before .loop in
-    let tested = c .before .node-passes .ensures ∙ ap (passes (x .number) (x .t) (at .i)) (c .before .before .record-at .ensures) in
+    let x = c .before .before .before .before .before .before .before .args in
+    let at = c .before .before .before .before .before .loop in
+    let tested = c .before .node-passes .ensures ∙ ap (passes (x .number) (x .t) (at .i)) (c .before .before .node-at .ensures) in
     sym (first-here _ _ _ _ (at .inv .1) (hit-test _ _ (sym tested ∙ not-true _ (c .if2 .taken))) (search needs))
-
-add-i : tie.Need-add-i Inv-loop μ-loop
-add-i c = search needs
-
-loop-less : tie.Need-loop-less Inv-loop μ-loop
-loop-less c = search needs
 
 loop-again : tie.Need-loop-again Inv-loop μ-loop
 unfolding badAt
 loop-again c =
-    let x = c .before .before .before .before .before .before .before .before .args in
-    let at = c .before .before .before .before .before .before .loop in
-    let tested = c .before .node-passes .ensures ∙ ap (passes (x .number) (x .t) (at .i)) (c .before .before .record-at .ensures) in
+    let x = c .before .before .before .before .before .before .before .args in
+    let at = c .before .before .before .before .before .loop in
+    let tested = c .before .node-passes .ensures ∙ ap (passes (x .number) (x .t) (at .i)) (c .before .before .node-at .ensures) in
     (search needs, first-pass _ _ (at .inv .1) (clear-test _ _ (sym tested ∙ not-false _ (c .if2 .left))))
 
 returns-2 : tie.Need-returns-2 Inv-loop μ-loop
@@ -63,15 +45,4 @@ pub first-bad-spec : {M : Type 1} → statement M
 first-bad-spec =
     tie.close
     (tie.spec
-    Inv-loop
-    μ-loop
-    loop-holds
-    mul-record-at
-    add-record-at
-    record-at-requires
-    node-passes-requires
-    returns
-    add-i
-    loop-less
-    loop-again
-    returns-2)
+    Inv-loop μ-loop loop-holds (λ c κs. search needs) (λ c κs. search needs) returns (λ c. search needs) (λ c. search needs) loop-again returns-2)

@@ -4,28 +4,16 @@ use borrow.Author.Tests.{eq-eqb, ne-eqb}
 use Rattle.fields.proofs.node_passes.Statement.{statement}
 use Rattle.fields.proofs.node_passes.Tie as tie
 
-shape-fits-requires : tie.Need-shape-fits-requires
-shape-fits-requires c κs = search needs
-
 returns : tie.Need-returns
 returns c = simp (eq-eqb _ _ (c .before .if1 .taken)) (c .shape-fits .ensures)
 
-unused-zero-requires : tie.Need-unused-zero-requires
-unused-zero-requires c κs = search needs
-
 returns-2 : tie.Need-returns-2
 returns-2 c = simp (ne-eqb _ _ (c .before .before .if1 .left), eq-eqb _ _ (c .before .if2 .taken)) (c .unused-zero .ensures)
-
-children-fit-requires : tie.Need-children-fit-requires
-children-fit-requires c κs = search needs
 
 returns-3 : tie.Need-returns-3
 returns-3 c =
     simp (ne-eqb _ _ (c .before .before .before .if1 .left), ne-eqb _ _ (c .before .before .if2 .left), eq-eqb _ _ (c .before .if3 .taken))
     (c .children-fit .ensures)
-
-names-fit-requires : tie.Need-names-fit-requires
-names-fit-requires c κs = search needs
 
 returns-4 : tie.Need-returns-4
 returns-4 c =
@@ -36,11 +24,4 @@ pub node-passes-spec : {M : Type 1} → statement M
 node-passes-spec =
     tie.close
     (tie.spec
-    shape-fits-requires
-    returns
-    unused-zero-requires
-    returns-2
-    children-fit-requires
-    returns-3
-    names-fit-requires
-    returns-4)
+    (λ c κs. search needs) returns (λ c κs. search needs) returns-2 (λ c κs. search needs) returns-3 (λ c κs. search needs) returns-4)

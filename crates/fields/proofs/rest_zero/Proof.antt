@@ -18,15 +18,6 @@ abbrev μ-loop : tie.MeasureT-loop
 loop-holds : tie.Need-loop-holds Inv-loop μ-loop
 loop-holds c = (search needs, sym (every-zero _))
 
-array-read-zero : tie.Need-array-read-zero Inv-loop μ-loop
-array-read-zero c = search needs
-
-add-k : tie.Need-add-k Inv-loop μ-loop
-add-k c = search needs
-
-loop-less : tie.Need-loop-less Inv-loop μ-loop
-loop-less c = search needs
-
 loop-again : tie.Need-loop-again Inv-loop μ-loop
 loop-again c =
     let at = c .before .before .loop in
@@ -38,4 +29,5 @@ returns c = let e : c .before .loop .k ≡ 8 = omega arith in rw e at (c .before
 pub rest-zero-spec : {M : Type 1} → statement M
 rest-zero-spec =
     tie.close
-    (tie.spec Inv-loop μ-loop loop-holds array-read-zero add-k loop-less loop-again returns)
+    (tie.spec
+    Inv-loop μ-loop loop-holds (λ c. search needs) (λ c. search needs) (λ c. search needs) loop-again returns)

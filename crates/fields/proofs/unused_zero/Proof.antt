@@ -3,11 +3,8 @@ use borrow.Author.Needs.{needs}
 use Rattle.fields.proofs.unused_zero.Statement.{statement}
 use Rattle.fields.proofs.unused_zero.Tie as tie
 
-rest-zero-requires : tie.Need-rest-zero-requires
-rest-zero-requires c κs = search needs
-
 returns : tie.Need-returns
 returns c = simp (c .rest-zero .ensures)
 
 pub unused-zero-spec : {M : Type 1} → statement M
-unused-zero-spec = tie.close (tie.spec rest-zero-requires returns)
+unused-zero-spec = tie.close (tie.spec (λ c κs. search needs) returns)

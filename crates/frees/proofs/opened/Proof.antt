@@ -21,47 +21,29 @@ abbrev μ-loop : tie.MeasureT-loop
 μ-loop file t row₀ i₀ row i = t .nodes - i
 
 -- the name that was read is a byte
-name-small : (c : tie.After-record-at Inv-loop μ-loop) → c .record-at .result .name < 256
+name-small : (c : tie.After-node-at Inv-loop μ-loop) → c .node-at .result .name < 256
 name-small c =
-    let l = c .before .before .before .before in
+    let l = c .before .before .before in
     let known = l .before .shared-slice-known .given (l .before .before .args .t .start + 16 * l .loop .i + 6) in
-    rw (c .record-at .ensures) (omega (arith, known))
+    rw (c .node-at .ensures) (omega (arith, known))
 
 loop-holds : tie.Need-loop-holds Inv-loop μ-loop
 loop-holds c = (omega arith, refl, λ o. marked-none 4 0 o ∙ sym (any-zero _))
 
-mul-record-at : tie.Need-mul-record-at Inv-loop μ-loop
-mul-record-at c = search needs
-
-add-record-at : tie.Need-add-record-at Inv-loop μ-loop
-add-record-at c = search needs
-
-record-at-requires : tie.Need-record-at-requires Inv-loop μ-loop
-record-at-requires c κs = search needs
-
-slice-aggregate-mark-if : tie.Need-slice-aggregate-mark-if Inv-loop μ-loop
-slice-aggregate-mark-if c = search needs
-
 mark-if-requires : tie.Need-mark-if-requires Inv-loop μ-loop
 mark-if-requires c κs = (search needs, name-small (c .before .before))
-
-add-i : tie.Need-add-i Inv-loop μ-loop
-add-i c = search needs
-
-loop-less : tie.Need-loop-less Inv-loop μ-loop
-loop-less c = search needs
 
 loop-again : tie.Need-loop-again Inv-loop μ-loop
 loop-again c =
     let read = c .before .before .before .before in
-    let l = read .before .before .before .before in
+    let l = read .before .before .before in
     let x = l .before .before .args in
-    let r = read .record-at in
+    let r = read .node-at in
     let mark = c .before .mark-if in
     let inv = l .loop .inv in (
       omega arith,
       mark .kept .0 ∙ inv .1,
-      rw (mark .ensures)
+      rw (mark .ensures, c .before .before .is-new .ensures)
           (opened-more (now (x .file)) (x .t) (l .loop .row) (l .loop .i) (r .result) (inv .1) (name-small read) (omega arith) (r .ensures) (inv .2)),
     )
 
@@ -76,15 +58,5 @@ pub opened-spec : {M : Type 1} → statement M
 opened-spec =
     tie.close
     (tie.spec
-    Inv-loop
-    μ-loop
-    loop-holds
-    mul-record-at
-    add-record-at
-    record-at-requires
-    slice-aggregate-mark-if
-    mark-if-requires
-    add-i
-    loop-less
-    loop-again
-    returns)
+    Inv-loop μ-loop loop-holds (λ c κs. search needs) (λ c. search needs) (λ c κs. search needs) mark-if-requires (λ c. search needs)
+    (λ c. search needs) loop-again returns)

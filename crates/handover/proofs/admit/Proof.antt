@@ -7,23 +7,12 @@ use Rattle.handover.proofs.Calls.{admit-refused, admit-22, admit-read}
 use Rattle.handover.proofs.admit.Statement.{statement}
 use Rattle.handover.proofs.admit.Tie as tie
 
-read-array-requires : tie.Need-read-array-requires
-read-array-requires c κs = search needs
-
-enum-known-r : tie.Need-enum-known-r
-enum-known-r c = search needs
-
-enum-known-t : tie.Need-enum-known-t
-enum-known-t c = search needs
-
-numbered-requires : tie.Need-numbered-requires
-numbered-requires c κs = search needs
-
 returns : tie.Need-returns
 returns c =
     let x = c .before .before .before .before .before .before .before .before .args in
     ap A.Refused (c .numbered .ensures)
-    ∙ admit-22 (now (x .array)) (now (x .choices)) _ (sym (c .before .before .before .before .before .read-array .ensures) ∙ c .before .before .before .t .given .1) (c .before .if1 .taken)
+    ∙ admit-22 (now (x .array)) (now (x .choices)) _
+    (sym (c .before .before .before .before .before .read-array .ensures) ∙ c .before .before .before .t .given .1) (c .before .if1 .taken)
 
 returns-2 : tie.Need-returns-2
 returns-2 c =
@@ -33,16 +22,11 @@ returns-2 c =
 returns-3 : tie.Need-returns-3
 returns-3 c =
     let x = c .before .before .before .before .before .before .before .args in
-    admit-read (now (x .array)) (now (x .choices)) _ (sym (c .before .before .before .before .read-array .ensures) ∙ c .before .before .t .given .1) (c .if1 .left)
+    admit-read (now (x .array)) (now (x .choices)) _
+    (sym (c .before .before .before .before .read-array .ensures) ∙ c .before .before .t .given .1) (c .if1 .left)
 
 pub admit-spec : {M : Type 1} → statement M
 admit-spec =
     tie.close
     (tie.spec
-    read-array-requires
-    enum-known-r
-    enum-known-t
-    numbered-requires
-    returns
-    returns-2
-    returns-3)
+    (λ c κs. search needs) (λ c. search needs) (λ c. search needs) (λ c κs. search needs) returns returns-2 returns-3)

@@ -16,14 +16,12 @@ use borrow.Author.Needs.{needs}
 use Rattle.handover.proofs.check.Statement.{statement}
 use Rattle.handover.proofs.check.Tie as tie
 
-read-array-requires : tie.Need-read-array-requires
-read-array-requires c κs = search needs
+-- stations
+abbrev at-start : tie.After-known-told2 → tie.Start
+at-start c = c .before .before .before .before .before .before
 
-enum-known-r : tie.Need-enum-known-r
-enum-known-r c = search needs
-
-enum-known-t : tie.Need-enum-known-t
-enum-known-t c = search needs
+abbrev at-known-told2 : tie.After-verdict-of → tie.After-known-told2
+at-known-told2 c = c .before .before .before .before .before .before
 
 check-table-requires : tie.Need-check-table-requires
 check-table-requires c κs =
@@ -32,27 +30,22 @@ check-table-requires c κs =
     let t = c .before .t .given .0 .0 in
     let e : readArray f ≡ A.Read t = sym (c .before .before .before .read-array .ensures) ∙ c .before .t .given .1 in
     let r = read-is f t e in
-    (omega (arith, r .fills), r .start, r .formed .fewNodes, r .formed .fewNames)
-
-enum-known-r-2 : tie.Need-enum-known-r-2
-enum-known-r-2 c = search needs
-
-enum-told : tie.Need-enum-told
-enum-told c = search needs
+    (omega (arith, r .fills), r .formed .fewNodes, r .formed .fewNames)
 
 read-sizes-requires : tie.Need-read-sizes-requires
 read-sizes-requires c κs =
-    let f = now (c .before .before .before .before .before .before .before .before .before .args .array) in
-    let s = now (c .before .before .before .before .before .before .before .before .before .args .table) in
+    let f = now (at-start (c .before .before .before) .args .array) in
+    let s = now (at-start (c .before .before .before) .args .table) in
     let t = c .before .before .before .before .t .given .0 .0 in
-    let e : readArray f ≡ A.Read t = sym (c .before .before .before .before .before .before .read-array .ensures) ∙ c .before .before .before .before .t .given .1 in
+    let e : readArray f ≡ A.Read t = sym (c .before .before .before .before .before .before .read-array .ensures)
+    ∙ c .before .before .before .before .t .given .1 in
     length-fits s (test-clear (lengthFits s) _
     (andThen-split _ _ (passes (c .before .before .check-table .result) (c .before .before .check-table .ensures) (c .enum-told .given .1)) .0))
 
 judge-requires : tie.Need-judge-requires
 judge-requires c κs =
-    let f = now (c .before .before .before .before .before .before .before .before .before .before .args .array) in
-    let s = now (c .before .before .before .before .before .before .before .before .before .before .args .table) in
+    let f = now (at-start (c .before .before .before .before) .args .array) in
+    let s = now (at-start (c .before .before .before .before) .args .table) in
     let t = c .before .before .before .before .before .t .given .0 .0 in
     let e : readArray f ≡ A.Read t = sym (c .before .before .before .before .before .before .before .read-array .ensures)
     ∙ c .before .before .before .before .before .t .given .1 in (
@@ -62,9 +55,6 @@ judge-requires c κs =
           (c .before .enum-told .given .1))),
     )
 
-verdict-of-requires : tie.Need-verdict-of-requires
-verdict-of-requires c κs = search needs
-
 returns : tie.Need-returns
 returns c =
     let f = now (c .before .before .before .before .before .before .args .array) in
@@ -73,8 +63,8 @@ returns c =
 
 returns-2 : tie.Need-returns-2
 returns-2 c =
-    let f = now (c .before .before .before .before .before .before .before .before .before .before .args .array) in
-    let s = now (c .before .before .before .before .before .before .before .before .before .before .args .table) in
+    let f = now (at-start (c .before .before .before .before) .args .array) in
+    let s = now (at-start (c .before .before .before .before) .args .table) in
     let t = c .before .before .before .before .before .t .given .0 .0 in
     let e : readArray f ≡ A.Read t = sym (c .before .before .before .before .before .before .before .read-array .ensures)
     ∙ c .before .before .before .before .before .t .given .1 in
@@ -82,10 +72,10 @@ returns-2 c =
 
 returns-3 : tie.Need-returns-3
 returns-3 c =
-    let f = now (c .before .before .before .before .before .before .before .before .before .before .before .before .args .array) in
-    let s = now (c .before .before .before .before .before .before .before .before .before .before .before .before .args .table) in
+    let f = now (at-start (at-known-told2 c) .args .array) in
+    let s = now (at-start (at-known-told2 c) .args .table) in
     let t = c .before .before .before .before .before .before .before .t .given .0 .0 in
-    let e : readArray f ≡ A.Read t = sym (c .before .before .before .before .before .before .before .before .before .read-array .ensures)
+    let e : readArray f ≡ A.Read t = sym (at-known-told2 c .before .before .before .read-array .ensures)
     ∙ c .before .before .before .before .before .before .before .t .given .1 in
     subst (Judges f s) (sym (c .verdict-of .ensures))
     (passed-judges f s t (c .before .before .read-sizes .result) (c .before .judge .result) e
@@ -96,15 +86,5 @@ pub check-spec : {M : Type 1} → statement M
 check-spec =
     tie.close
     (tie.spec
-    read-array-requires
-    enum-known-r
-    enum-known-t
-    check-table-requires
-    enum-known-r-2
-    enum-told
-    read-sizes-requires
-    judge-requires
-    verdict-of-requires
-    returns
-    returns-2
-    returns-3)
+    (λ c κs. search needs) (λ c. search needs) (λ c. search needs) check-table-requires (λ c. search needs) (λ c. search needs)
+    read-sizes-requires judge-requires (λ c κs. search needs) returns returns-2 returns-3)

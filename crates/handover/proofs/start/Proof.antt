@@ -5,29 +5,21 @@ use Rattle.handover.proofs.Calls.{not-admitted, admitted, start-not, st
 use Rattle.handover.proofs.start.Statement.{statement}
 use Rattle.handover.proofs.start.Tie as tie
 
-admit-requires : tie.Need-admit-requires
-admit-requires c κs = search needs
+-- stations
+abbrev at-admitted2 : tie.At-match2-keys1 → tie.After-admitted2
+at-admitted2 c = c .before .before .before .before .before .before
 
-enum-known-admitted : tie.Need-enum-known-admitted
-enum-known-admitted c = search needs
+abbrev at-start : tie.After-admitted2 → tie.Start
+at-start c = c .before .before .before .before .before .before
 
-enum-known-admitted-2 : tie.Need-enum-known-admitted-2
-enum-known-admitted-2 c = search needs
+abbrev at-admitted2-too : tie.At-match2-keys2 → tie.After-admitted2
+at-admitted2-too c = c .before .before .before .before .before .before
 
 start-requires : tie.Need-start-requires
 start-requires c κs =
     let x = c .before .before .before .before .before .before .before .before .args in
     let a = admitted (now (x .array)) (now (x .choices)) _ (c .before .before .before .before .admit .ensures) _ (c .before .before .admitted2 .given .1) in
     (a .3, a .2)
-
-enum-known-fired : tie.Need-enum-known-fired
-enum-known-fired c = search needs
-
-numbered-requires : tie.Need-numbered-requires
-numbered-requires c κs = search needs
-
-enum-known-fired-2 : tie.Need-enum-known-fired-2
-enum-known-fired-2 c = search needs
 
 returns : tie.Need-returns
 returns c =
@@ -36,45 +28,28 @@ returns c =
     let ch = now (x .choices) in
     start-not f ch _ (not-admitted f ch _ (c .before .before .before .admit .ensures) _ (c .before .admitted .given .1)) (now (x .threads))
 
-same-length : tie.Need-same-length
-same-length c = search needs
-
 returns-2 : tie.Need-returns-2
 returns-2 c =
-    let x = c .before .before .before .before .before .before .before .before .before .before .before .before .before .before .before .args in
+    let x = at-start (at-admitted2 (c .before .before .before)) .args in
     let f = now (x .array) in
     let ch = now (x .choices) in
-    let at-admit = c .before .before .before .before .before .before .before .before .before .before .before .admit .ensures in
-    let at-admitted2 = c .before .before .before .before .before .before .before .before .before .admitted2 .given .1 in
-    let a = admitted f ch _ at-admit _ at-admitted2 in
-    rw (c .numbered .ensures) (start-stopped f ch _ a (now (x .threads)) _ _ (c .before .before .before .before .before .before .start .ensures) _ (c .before .before .fired .given .1))
-
-same-length-2 : tie.Need-same-length-2
-same-length-2 c = search needs
+    let a = admitted f ch _ (at-admitted2 (c .before .before .before) .before .before .admit .ensures) _
+    (at-admitted2 (c .before .before .before) .admitted2 .given .1) in
+    rw (c .numbered .ensures)
+    (start-stopped f ch _ a (now (x .threads)) _ _ (c .before .before .before .before .before .before .start .ensures) _ (c .before .before .fired .given .1))
 
 returns-3 : tie.Need-returns-3
 returns-3 c =
-    let x = c .before .before .before .before .before .before .before .before .before .before .before .before .before .before .args in
+    let x = at-start (at-admitted2-too (c .before .before)) .args in
     let f = now (x .array) in
     let ch = now (x .choices) in
-    let at-admit = c .before .before .before .before .before .before .before .before .before .before .admit .ensures in
-    let at-admitted2 = c .before .before .before .before .before .before .before .before .admitted2 .given .1 in
-    let a = admitted f ch _ at-admit _ at-admitted2 in
-    start-started f ch _ a (now (x .threads)) _ _ (c .before .before .before .before .before .start .ensures) _ _ _ (c .before .fired2 .given .1)
+    let a = admitted f ch _ (at-admitted2-too (c .before .before) .before .before .admit .ensures) _
+    (c .before .before .before .before .before .before .before .before .admitted2 .given .1) in
+    start-started f ch _ a (now (x .threads)) _ _ (c .before .before .before .before .before .start .ensures) _ _ (c .before .fired2 .given .1)
 
 pub start-spec : {M : Type 1} → statement M
 start-spec =
     tie.close
     (tie.spec
-    admit-requires
-    enum-known-admitted
-    enum-known-admitted-2
-    start-requires
-    enum-known-fired
-    numbered-requires
-    enum-known-fired-2
-    returns
-    same-length
-    returns-2
-    same-length-2
-    returns-3)
+    (λ c κs. search needs) (λ c. search needs) (λ c. search needs) start-requires (λ c. search needs) (λ c κs. search needs) (λ c. search needs)
+    returns (λ c. search needs) returns-2 (λ c. search needs) returns-3)

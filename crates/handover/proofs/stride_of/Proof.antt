@@ -8,15 +8,6 @@ use Rattle.handover.specs.Bodies.{strideAnswer}
 use Rattle.handover.proofs.stride_of.Statement.{statement}
 use Rattle.handover.proofs.stride_of.Tie as tie
 
-enum-known-s : tie.Need-enum-known-s
-enum-known-s c = search needs
-
-made-requires : tie.Need-made-requires
-made-requires c κs = search needs
-
-enum-known-s-2 : tie.Need-enum-known-s-2
-enum-known-s-2 c = search needs
-
 returns : tie.Need-returns
 returns c =
     let w = c .before .before .before .before .args .allowance in
@@ -29,4 +20,4 @@ returns-2 c =
     ap (λ (s : Stride). strideAnswer s (w .allowed - w .left)) (sym (c .before .s2 .given .1))
 
 pub stride-of-spec : {M : Type 1} → statement M
-stride-of-spec = tie.close (tie.spec enum-known-s made-requires enum-known-s-2 returns returns-2)
+stride-of-spec = tie.close (tie.spec (λ c. search needs) (λ c κs. search needs) (λ c. search needs) returns returns-2)

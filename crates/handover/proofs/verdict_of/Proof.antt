@@ -5,24 +5,6 @@ use borrow.Author.Needs.{needs}
 use Rattle.handover.proofs.verdict_of.Statement.{statement}
 use Rattle.handover.proofs.verdict_of.Tie as tie
 
-enum-told : tie.Need-enum-told
-enum-told c = search needs
-
-enum-known-r : tie.Need-enum-known-r
-enum-known-r c = search needs
-
-enum-known-r-2 : tie.Need-enum-known-r-2
-enum-known-r-2 c = search needs
-
-enum-known-r-3 : tie.Need-enum-known-r-3
-enum-known-r-3 c = search needs
-
-enum-known-r-4 : tie.Need-enum-known-r-4
-enum-known-r-4 c = search needs
-
-enum-known-r-5 : tie.Need-enum-known-r-5
-enum-known-r-5 c = search needs
-
 returns : tie.Need-returns
 returns c =
     ap (λ r. verdictOf r (c .before .before .args .z)) (sym (c .enum-told .given .1))
@@ -51,15 +33,5 @@ pub verdict-of-spec : {M : Type 1} → statement M
 verdict-of-spec =
     tie.close
     (tie.spec
-    enum-told
-    enum-known-r
-    enum-known-r-2
-    enum-known-r-3
-    enum-known-r-4
-    enum-known-r-5
-    returns
-    returns-2
-    returns-3
-    returns-4
-    returns-5
-    returns-6)
+    (λ c. search needs) (λ c. search needs) (λ c. search needs) (λ c. search needs) (λ c. search needs) (λ c. search needs) returns returns-2
+    returns-3 returns-4 returns-5 returns-6)

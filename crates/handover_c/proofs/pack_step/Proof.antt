@@ -6,7 +6,7 @@ use Rattle.handover.specs.declared.StepAnswer.{StepAnswer}
 use Rattle.handover.specs.Engine.{saysStep}
 use Rattle.handover.specs.Refusals.{StepNumber}
 use Rattle.handover.proofs.Refusals.{step-few}
-use Rattle.handover_c.specs.Packed.{packedReply, FitsReply}
+use Rattle.handover_c.specs.Packed.{packedReply, FitsReply, packedStep, FitsStep}
 use Rattle.handover_c.proofs.pack_step.Statement.{statement}
 use Rattle.handover_c.proofs.pack_step.Tie as tie
 
@@ -15,7 +15,7 @@ enum-known-x c = search needs
 
 pack-counts-requires : tie.Need-pack-counts-requires
 pack-counts-requires c κs =
-    let h = subst (λ (y : StepAnswer). FitsReply StepNumber (saysStep y)) (c .before .x .given .1) (c .before .before .before .pre) in
+    let h = subst (λ (y : StepAnswer). FitsReply FitsStep StepNumber (saysStep y)) (c .before .x .given .1) (c .before .before .before .pre) in
     (omega arith, h)
 
 enum-known-x-2 : tie.Need-enum-known-x-2
@@ -23,14 +23,14 @@ enum-known-x-2 c = search needs
 
 pack-refusal-requires : tie.Need-pack-refusal-requires
 pack-refusal-requires c κs =
-    let h = subst (λ (y : StepAnswer). FitsReply StepNumber (saysStep y)) (c .before .x2 .given .1) (c .before .before .before .pre) in
+    let h = subst (λ (y : StepAnswer). FitsReply FitsStep StepNumber (saysStep y)) (c .before .x2 .given .1) (c .before .before .before .pre) in
     (step-few _ (h .0), h .1)
 
 returns : tie.Need-returns
-returns c = c .pack-counts .ensures ∙ ap (λ (y : StepAnswer). packedReply 1 (saysStep y)) (sym (c .before .before .x .given .1))
+returns c = c .pack-counts .ensures ∙ ap (λ (y : StepAnswer). packedReply packedStep (saysStep y)) (sym (c .before .before .x .given .1))
 
 returns-2 : tie.Need-returns-2
-returns-2 c = c .pack-refusal .ensures ∙ ap (λ (y : StepAnswer). packedReply 1 (saysStep y)) (sym (c .before .before .x2 .given .1))
+returns-2 c = c .pack-refusal .ensures ∙ ap (λ (y : StepAnswer). packedReply packedStep (saysStep y)) (sym (c .before .before .x2 .given .1))
 
 pub pack-step-spec : {M : Type 1} → statement M
 pack-step-spec =

@@ -7,7 +7,7 @@ use Rattle.handover.specs.declared.WalkAnswer.{WalkAnswer}
 use Rattle.handover.specs.Engine.{saysWalk}
 use Rattle.handover.specs.Refusals.{WalkNumber}
 use Rattle.handover.proofs.Refusals.{walk-few}
-use Rattle.handover_c.specs.Packed.{packedReply, counted, FitsReply}
+use Rattle.handover_c.specs.Packed.{packedReply, counted, FitsReply, packedWalk, FitsWalk}
 use Rattle.handover_c.proofs.pack_walk.Statement.{statement}
 use Rattle.handover_c.proofs.pack_walk.Tie as tie
 
@@ -19,7 +19,7 @@ ending-code-requires c κs = search needs
 
 pack-counts-requires : tie.Need-pack-counts-requires
 pack-counts-requires c κs =
-    let h = subst (λ (y : WalkAnswer). FitsReply WalkNumber (saysWalk y)) (c .before .before .x .given .1) (c .before .before .before .before .pre) in
+    let h = subst (λ (y : WalkAnswer). FitsReply FitsWalk WalkNumber (saysWalk y)) (c .before .before .x .given .1) (c .before .before .before .before .pre) in
     (omega (arith, c .ending-code .ensures .1), h .0)
 
 enum-known-x-2 : tie.Need-enum-known-x-2
@@ -27,7 +27,7 @@ enum-known-x-2 c = search needs
 
 pack-refusal-requires : tie.Need-pack-refusal-requires
 pack-refusal-requires c κs =
-    let h = subst (λ (y : WalkAnswer). FitsReply WalkNumber (saysWalk y)) (c .before .x2 .given .1) (c .before .before .before .pre) in
+    let h = subst (λ (y : WalkAnswer). FitsReply FitsWalk WalkNumber (saysWalk y)) (c .before .x2 .given .1) (c .before .before .before .pre) in
     (walk-few _ (h .0), h .1)
 
 returns : tie.Need-returns
@@ -35,10 +35,11 @@ returns c =
     let w = c .before .before .before .x .given .0 .0 in
     let code = c .before .ending-code .ensures .0 in
     let said = c .before .before .before .x .given .1 in
-    c .pack-counts .ensures ∙ ap (λ (e : ℕ). counted e (w .threads) (w .markers) (w .steps)) code ∙ ap (λ (y : WalkAnswer). packedReply 0 (saysWalk y)) (sym said)
+    c .pack-counts .ensures ∙ ap (λ (e : ℕ). counted e (w .counts .threads) (w .counts .markers) (w .steps)) code
+    ∙ ap (λ (y : WalkAnswer). packedReply packedWalk (saysWalk y)) (sym said)
 
 returns-2 : tie.Need-returns-2
-returns-2 c = c .pack-refusal .ensures ∙ ap (λ (y : WalkAnswer). packedReply 0 (saysWalk y)) (sym (c .before .before .x2 .given .1))
+returns-2 c = c .pack-refusal .ensures ∙ ap (λ (y : WalkAnswer). packedReply packedWalk (saysWalk y)) (sym (c .before .before .x2 .given .1))
 
 pub pack-walk-spec : {M : Type 1} → statement M
 pack-walk-spec =

@@ -1,40 +1,33 @@
 -- The loop's invariant: the loads of the nodes from i on are in the list.
 use Prim.Native.Nat.{_≤_}
-use mathlib.Core.Path.{_≡_, refl, _∙_}
+use mathlib.Core.Path.{_≡_, _∙_}
 use lib.ListN.{length}
 use Rattle.records.specs.Record.{arrayOf}
 use Rattle.layout.specs.Table.{tableOf}
 use Rattle.loads.specs.Loads.{FilledFrom}
-use native.Mathlib.Omega.{arith}
 use borrow.Author.Needs.{needs}
+use native.Mathlib.Omega.{arith}
 use Rattle.loads.proofs.all_loads.Statement.{statement}
 use Rattle.loads.proofs.all_loads.Tie as tie
 
 abbrev Inv-loop : tie.InvT-loop
-Inv-loop file t table z loads₀ i₀ loads i = (i ≤ t .nodes) × (length loads ≡ 24576) × FilledFrom loads (arrayOf file t) (tableOf table z) i
+Inv-loop loads₀ file t table z i₀ loads i =
+    (i ≤ t .nodes) × (length loads ≡ 24576) × FilledFrom loads (arrayOf file t) (tableOf table z) i
 
 abbrev μ-loop : tie.MeasureT-loop
-μ-loop file t table z loads₀ i₀ loads i = i
+μ-loop loads₀ file t table z i₀ loads i = i
 
 loop-holds : tie.Need-loop-holds Inv-loop μ-loop
-loop-holds c = (omega arith, refl, λ i k l h m. absurd (omega arith))
-
-sub-i : tie.Need-sub-i Inv-loop μ-loop
-sub-i c = search needs
-
-slice-aggregate-fill-node : tie.Need-slice-aggregate-fill-node Inv-loop μ-loop
-slice-aggregate-fill-node c = search needs
+loop-holds c = (omega arith, c .before .before .before .pre .1, λ i k l h m. absurd (omega arith))
 
 fill-node-requires : tie.Need-fill-node-requires Inv-loop μ-loop
 fill-node-requires c κs =
     let l = c .before .before .loop in
-    (c .before .before .before .before .before .pre, (l .inv .1, omega arith, λ i k h. l .inv .2 i k (omega arith)))
-
-loop-less : tie.Need-loop-less Inv-loop μ-loop
-loop-less c = search needs
+    (c .before .before .before .before .before .before .pre .0, (l .inv .1, omega arith, λ i k h. l .inv .2 i k (omega arith)))
 
 loop-again : tie.Need-loop-again Inv-loop μ-loop
-loop-again c = (omega arith, c .before .fill-node .kept .0 ∙ c .before .before .before .before .loop .inv .1, c .before .fill-node .ensures)
+loop-again c =
+    (omega arith, c .before .before .fill-node .kept .0 ∙ c .before .before .before .before .before .loop .inv .1, c .before .before .fill-node .ensures)
 
 returns : tie.Need-returns Inv-loop μ-loop
 returns c = let l = c .before .loop in λ i k. l .inv .2 i k (omega arith)
@@ -43,12 +36,4 @@ pub all-loads-spec : {M : Type 1} → statement M
 all-loads-spec =
     tie.close
     (tie.spec
-    Inv-loop
-    μ-loop
-    loop-holds
-    sub-i
-    slice-aggregate-fill-node
-    fill-node-requires
-    loop-less
-    loop-again
-    returns)
+    Inv-loop μ-loop loop-holds (λ c. search needs) fill-node-requires (λ c. search needs) loop-again (λ c. search needs) returns)

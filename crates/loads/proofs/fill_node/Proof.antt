@@ -1,163 +1,106 @@
 -- The loop's invariant: row i has the loads from the list as it was in the balances below k, and the rows above it are as they were.
 use Prim.Native.Nat.{ℕ, _+_, _*_, _-_, _≤_, _<_}
-use native.Mathlib.Nat.{not-suc-le-zero}
+use native.Mathlib.Nat.{not-suc-le-zero, le-of-suc-le-suc}
 use mathlib.Core.Path.{_≡_, refl, ap, _∙_}
 use denote.Ref.{now}
 use lib.ListN.{length, length-set}
 use Rattle.layout.specs.Table.{balanceAt, weightAt, tableOf}
-use Rattle.layout.proofs.Laws.{balance-next, balance-fits}
-use Rattle.loads.specs.Loads.{loadFrom}
-use native.Mathlib.Nat.{le-of-suc-le-suc}
+use Rattle.layout.proofs.Laws.{balance-fits}
 use Rattle.wire.proofs.Laws.{u16-small}
 use Rattle.records.proofs.Laws.{child-of}
+use Rattle.loads.specs.Loads.{entryOf, loadFrom}
 use Rattle.loads.proofs.Laws.{SameAbove, RowTo, above-set, row-set, half-child, filled-row}
-use native.Mathlib.Omega.{arith}
 use borrow.Author.Needs.{needs}
+use native.Mathlib.Omega.{arith}
 use Rattle.loads.proofs.fill_node.Statement.{statement}
 use Rattle.loads.proofs.fill_node.Tie as tie
 
 abbrev Inv-loop : tie.InvT-loop
-Inv-loop loads₀ file table z i r size at₀ k₀ loads at k =
-    (k ≤ z .balances) × (at ≡ balanceAt z k) × (length loads ≡ length loads₀) × SameAbove loads₀ loads i
-    × RowTo loads₀ loads r (λ m. weightAt table (balanceAt z m) i) i k
+Inv-loop loads₀ file table z i r k₀ loads k =
+    (k ≤ z .balances) × (length loads ≡ length loads₀) × SameAbove loads₀ loads i × RowTo loads₀ loads r (λ m. weightAt table (balanceAt z m) i) i k
 
 abbrev μ-loop : tie.MeasureT-loop
-μ-loop loads₀ file table z i r size at₀ k₀ loads at k = z .balances - k
+μ-loop loads₀ file table z i r k₀ loads k = z .balances - k
 
-mul-record-at : tie.Need-mul-record-at Inv-loop μ-loop
-mul-record-at c = search needs
+-- the start, seen from the loop, and the loop, seen from the weight that was read
+abbrev begun : tie.At-loop Inv-loop μ-loop → tie.Start Inv-loop μ-loop
+begun l = l .before .before .before .before .before
 
-add-record-at : tie.Need-add-record-at Inv-loop μ-loop
-add-record-at c = search needs
+abbrev looped : tie.After-u16-at Inv-loop μ-loop → tie.At-loop Inv-loop μ-loop
+looped c = c .before .before .before .before
 
-record-at-requires : tie.Need-record-at-requires Inv-loop μ-loop
-record-at-requires c κs = search needs
+-- a number of the table has 16 bits
+small : (l : tie.At-loop Inv-loop μ-loop) (at i : ℕ) → weightAt (now (begun l .args .table)) at i < 65536
+small l at i = u16-small (now (begun l .args .table)) (λ m. omega (arith, l .before .before .shared-slice-known2 .given m)) _
 
-balance-size-requires : tie.Need-balance-size-requires Inv-loop μ-loop
-balance-size-requires c κs = search needs
-
-mul-at : tie.Need-mul-at Inv-loop μ-loop
-mul-at c = search needs
+-- the balance ends in the table
+inside : (l : tie.At-loop Inv-loop μ-loop) → let x = begun l .args in l .loop .k < x .z .balances
+    → balanceAt (x .z) (l .loop .k) + 5 + 2 * x .i < length (now (x .table))
+inside l h =
+    let s = begun l in
+    let laid = s .pre .0 .2 in
+    omega (arith, balance-fits (s .args .z) (l .loop .k) h, laid .fills, laid .nodes, s .pre .1 .1)
 
 loop-holds : tie.Need-loop-holds Inv-loop μ-loop
-loop-holds c = (omega arith, omega arith, refl, λ j k l h. refl, λ k h. absurd (not-suc-le-zero h))
+loop-holds c = (omega arith, refl, λ j k l h. refl, λ k h. absurd (not-suc-le-zero h))
 
 add-u16-at : tie.Need-add-u16-at Inv-loop μ-loop
-add-u16-at c =
-    let z = c .before .before .before .before .before .before .before .before .before .before .args .z in
-    omega (arith, balance-fits z (c .before .before .loop .k) (c .if1 .taken))
-
-mul-u16-at : tie.Need-mul-u16-at Inv-loop μ-loop
-mul-u16-at c = search needs
+add-u16-at c = omega (arith, inside (c .before .before .before) (c .before .if1 .taken))
 
 add-u16-at-2 : tie.Need-add-u16-at-2 Inv-loop μ-loop
-add-u16-at-2 c =
-    let z = c .before .before .before .before .before .before .before .before .before .before .args .z in
-    omega (arith, balance-fits z (c .before .before .loop .k) (c .if1 .taken))
+add-u16-at-2 c = omega (arith, inside (c .before .before .before) (c .before .if1 .taken))
 
 u16-at-requires : tie.Need-u16-at-requires Inv-loop μ-loop
-u16-at-requires c κs =
-    let z = c .before .before .before .before .before .before .before .before .before .before .args .z in
-    omega (arith, balance-fits z (c .before .before .loop .k) (c .if1 .taken))
+u16-at-requires c κs = omega (arith, inside (c .before .before .before) (c .before .if1 .taken))
 
 cast-weight : tie.Need-cast-weight Inv-loop μ-loop
-cast-weight c =
-    let x = c .before .before .before .before .before .before .before .before .before .before .before .args in
-    let known = c .before .before .before .before .before .before .before .before .shared-slice-known2 .given in
-    omega (arith, u16-small (now (x .table)) (λ m. omega (arith, known m)) (c .before .before .before .loop .at + 4 + 2 * x .i))
+cast-weight c = rw (c .u16-at .ensures) (omega (arith, small (looped c) (c .before .balance-at .result) (begun (looped c) .args .i)))
 
 load-of-requires : tie.Need-load-of-requires Inv-loop μ-loop
 load-of-requires c κs =
-    let x = c .before .before .before .before .before .before .before .before .before .before .before .before .args in
-    let p = c .before .before .before .before .before .before .before .before .before .before .before .before .pre in
-    let known = c .before .before .before .before .before .before .before .before .before .shared-slice-known2 .given in
-    let l = c .before .before .before .before .loop in
-    let r = c .before .before .before .before .before .before .before .record-at in
-    half-child (now (x .file)) (x .t) (p .0 .1) (x .i) (p .1 .1) (r .result) (r .ensures) (tableOf (now (x .table)) (x .z))
-    (p .0 .2 .fewBalances) (now (x .loads)) (l .loads) (p .1 .2) (l .inv .3) (l .inv .2 ∙ p .1 .0) (l .k) (c .before .before .if1 .taken)
-    (λ j. le-of-suc-le-suc (u16-small (now (x .table)) (λ m. omega (arith, known m)) _))
-
-mul-loads : tie.Need-mul-loads Inv-loop μ-loop
-mul-loads c = search needs
-
-add-loads : tie.Need-add-loads Inv-loop μ-loop
-add-loads c = search needs
-
-mul-loads-2 : tie.Need-mul-loads-2 Inv-loop μ-loop
-mul-loads-2 c = search needs
-
-slice-write-loads : tie.Need-slice-write-loads Inv-loop μ-loop
-slice-write-loads c = search needs
-
-add-at : tie.Need-add-at Inv-loop μ-loop
-add-at c =
-    let z = c .before .before .before .before .before .before .before .before .before .before .before .before .before .args .z in
-    omega (arith, balance-fits z (c .before .before .before .before .before .loop .k) (c .before .before .before .if1 .taken))
-
-add-k : tie.Need-add-k Inv-loop μ-loop
-add-k c = search needs
-
-loop-less : tie.Need-loop-less Inv-loop μ-loop
-loop-less c = search needs
+    let l = looped (c .before) in
+    let s = begun l in
+    let r = l .before .node-at in
+    half-child (now (s .args .file)) (s .args .t) (s .pre .0 .1) (s .args .i) (s .pre .1 .1) (r .result) (r .ensures)
+    (tableOf (now (s .args .table)) (s .args .z))
+    (s .pre .0 .2 .fewBalances) (now (s .args .loads)) (l .loop .loads) (s .pre .1 .2) (l .loop .inv .2) (l .loop .inv .1 ∙ s .pre .1 .0) (l .loop .k)
+    (c .before .before .before .if1 .taken) (λ j. le-of-suc-le-suc (small l _ j))
 
 loop-again : tie.Need-loop-again Inv-loop μ-loop
 loop-again c =
-    let x = c .before .before .before .before .before .before .before .before .before .before .before .before .before .args in
-    let p = c .before .before .before .before .before .before .before .before .before .before .before .before .before .pre in
-    let l = c .before .before .before .before .before .loop in
-    let r = c .before .before .before .before .before .before .before .before .record-at in
-    let w : ℕ → ℕ = λ m. weightAt (now (x .table)) (balanceAt (x .z) m) (x .i) in
-    let here = c .before .before .u16-at .ensures ∙ ap (λ (n : ℕ). weightAt (now (x .table)) n (x .i)) (l .inv .1) in
-    let few : l .k < 24 = omega arith in
-    let fits : 24 * x .i + l .k < length (l .loads) = omega arith in
-    let v = c .load-of .result in (
+    let w = c .before .before .before in
+    let l = looped w in
+    let s = begun l in
+    let x = s .args in
+    let r = l .before .node-at in
+    let weight : ℕ → ℕ = λ m. weightAt (now (x .table)) (balanceAt (x .z) m) (x .i) in
+    let here = w .u16-at .ensures ∙ ap (λ (n : ℕ). weightAt (now (x .table)) n (x .i)) (w .before .balance-at .ensures) in
+    let few : l .loop .k < 24 = omega arith in
+    let fits : entryOf (x .i) (l .loop .k) < length (l .loop .loads) = omega arith in
+    let v = c .before .load-of .result in
+    rw (c .entry .ensures) (
       omega arith,
-      omega (arith, balance-next (x .z) (l .k)),
-      length-set (l .loads) _ _ ∙ l .inv .2,
-      above-set (now (x .loads)) (l .loads) (x .i) (l .k) few fits (l .inv .3) v,
-      row-set (now (x .loads)) (l .loads) (x .i) (l .k) few fits (l .inv .3) v (r .result) w
-          (λ n g. child-of (now (x .file)) (x .t) (x .i) (r .result) (p .1 .1) (r .ensures) (p .0 .1 .children) n g .0)
-          (c .load-of .ensures ∙ ap (loadFrom (l .loads) (r .result) (l .k)) here) (l .inv .4),
+      length-set (l .loop .loads) _ _ ∙ l .loop .inv .1,
+      above-set (now (x .loads)) (l .loop .loads) (x .i) (l .loop .k) few fits (l .loop .inv .2) v,
+      row-set (now (x .loads)) (l .loop .loads) (x .i) (l .loop .k) few fits (l .loop .inv .2) v (r .result) weight
+          (λ n g. child-of (now (x .file)) (x .t) (x .i) (r .result) (s .pre .1 .1) (r .ensures) (s .pre .0 .1 .children) n g .0)
+          (c .before .load-of .ensures ∙ ap (loadFrom (l .loop .loads) (r .result) (l .loop .k)) here) (l .loop .inv .3),
     )
-
-same-length : tie.Need-same-length Inv-loop μ-loop
-same-length c = search needs
 
 returns : tie.Need-returns Inv-loop μ-loop
 returns c =
-    let x = c .before .before .before .before .before .before .before .before .before .before .args in
-    let p = c .before .before .before .before .before .before .before .before .before .before .pre in
     let l = c .before .before .loop in
-    let r = c .before .before .before .before .before .record-at in
-    let e : l .k ≡ x .z .balances = omega arith in
-    filled-row (now (x .file)) (x .t) (p .0 .1) (x .i) (p .1 .1) (r .result) (r .ensures) (tableOf (now (x .table)) (x .z))
-    (p .0 .2 .fewBalances) (now (x .loads)) (l .loads) (p .1 .2) (l .inv .3) (rw e at (l .inv .4))
+    let at = c .before .before in
+    let s = begun at in
+    let r = at .before .node-at in
+    let e : l .k ≡ s .args .z .balances = omega arith in
+    filled-row (now (s .args .file)) (s .args .t) (s .pre .0 .1) (s .args .i) (s .pre .1 .1) (r .result) (r .ensures)
+    (tableOf (now (s .args .table)) (s .args .z)) (s .pre .0 .2 .fewBalances) (now (s .args .loads)) (l .loads) (s .pre .1 .2) (l .inv .2) (rw e at (l .inv .3))
 
 pub fill-node-spec : {M : Type 1} → statement M
 fill-node-spec =
     tie.close
     (tie.spec
-    Inv-loop
-    μ-loop
-    mul-record-at
-    add-record-at
-    record-at-requires
-    balance-size-requires
-    mul-at
-    loop-holds
-    add-u16-at
-    mul-u16-at
-    add-u16-at-2
-    u16-at-requires
-    cast-weight
-    load-of-requires
-    mul-loads
-    add-loads
-    mul-loads-2
-    slice-write-loads
-    add-at
-    add-k
-    loop-less
-    loop-again
-    same-length
-    returns)
+    Inv-loop μ-loop (λ c κs. search needs) loop-holds (λ c κs. search needs) add-u16-at (λ c. search needs) add-u16-at-2 u16-at-requires
+    cast-weight load-of-requires (λ c κs. search needs) (λ c. search needs) (λ c. search needs) (λ c. search needs) (λ c. search needs)
+    loop-again (λ c. search needs) returns)

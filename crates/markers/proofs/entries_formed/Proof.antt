@@ -44,12 +44,6 @@ tested c =
 loop-holds : tie.Need-loop-holds Inv-loop μ-loop
 loop-holds c = (omega arith, every-zero _)
 
-entry-at-requires : tie.Need-entry-at-requires Inv-loop μ-loop
-entry-at-requires c κs = search needs
-
-entry-formed-requires : tie.Need-entry-formed-requires Inv-loop μ-loop
-entry-formed-requires c κs = search needs
-
 returns : tie.Need-returns Inv-loop μ-loop
 unfolding entriesFormed
 returns c =
@@ -60,12 +54,6 @@ returns c =
     (ap (λ (b : Bool). b && every (x .count) (unlike es))
     (false-every (x .count) (formedAt (arrayOf (now (x .file)) (x .t)) es) (c .before .before .before .before .loop .k) (omega arith) fails))
 
-add-k : tie.Need-add-k Inv-loop μ-loop
-add-k c = search needs
-
-loop-less : tie.Need-loop-less Inv-loop μ-loop
-loop-less c = search needs
-
 loop-again : tie.Need-loop-again Inv-loop μ-loop
 loop-again c =
     let x = c .before .before .before .before .before .before .before .args in
@@ -74,9 +62,6 @@ loop-again c =
       omega arith,
       every-pass (formedAt (arrayOf (now (x .file)) (x .t)) (entriesIn (x .count) (now (x .markers)))) (l .k) (l .inv .1) passes,
     )
-
-entries-unlike-requires : tie.Need-entries-unlike-requires Inv-loop μ-loop
-entries-unlike-requires c κs = search needs
 
 returns-2 : tie.Need-returns-2 Inv-loop μ-loop
 unfolding entriesFormed
@@ -91,14 +76,5 @@ pub entries-formed-spec : {M : Type 1} → statement M
 entries-formed-spec =
     tie.close
     (tie.spec
-    Inv-loop
-    μ-loop
-    loop-holds
-    entry-at-requires
-    entry-formed-requires
-    returns
-    add-k
-    loop-less
-    loop-again
-    entries-unlike-requires
-    returns-2)
+    Inv-loop μ-loop loop-holds (λ c κs. search needs) (λ c κs. search needs) returns (λ c. search needs) (λ c. search needs) loop-again
+    (λ c κs. search needs) returns-2)

@@ -39,15 +39,6 @@ tested c =
 loop-holds : tie.Need-loop-holds Inv-loop μ-loop
 loop-holds c = (omega arith, refl, λ j h. absurd (not-suc-le-zero h), every-zero _)
 
-entry-at-requires : tie.Need-entry-at-requires Inv-loop μ-loop
-entry-at-requires c κs = search needs
-
-slot-of-requires : tie.Need-slot-of-requires Inv-loop μ-loop
-slot-of-requires c κs = search needs
-
-slice-aggregate-is-listed : tie.Need-slice-aggregate-is-listed Inv-loop μ-loop
-slice-aggregate-is-listed c = search needs
-
 is-listed-requires : tie.Need-is-listed-requires Inv-loop μ-loop
 is-listed-requires c κs =
     let l = c .before .before .before .before .loop in
@@ -60,30 +51,22 @@ returns c =
     let k = c .before .before .before .before .before .before .loop .k in
     sym (false-every (x .count) (unlike (entriesIn (x .count) (now (x .markers)))) k (omega arith) (tested (c .before) ∙ ap not (c .if1 .taken)))
 
-slice-aggregate-see : tie.Need-slice-aggregate-see Inv-loop μ-loop
-slice-aggregate-see c = search needs
-
 see-requires : tie.Need-see-requires Inv-loop μ-loop
 see-requires c κs = (c .before .before .before .before .before .before .before .loop .inv .1, c .before .before .before .before .slot-of .ensures .1)
 
-add-k : tie.Need-add-k Inv-loop μ-loop
-add-k c = search needs
-
-loop-less : tie.Need-loop-less Inv-loop μ-loop
-loop-less c = search needs
-
 loop-again : tie.Need-loop-again Inv-loop μ-loop
 loop-again c =
-    let x = c .before .before .before .before .before .before .before .before .before .before .before .args in
-    let l = c .before .before .before .before .before .before .before .before .before .loop in
-    let slot = c .before .before .before .before .before .before .slot-of in
+    let searched = c .before .before .before .before in
+    let slot = searched .before .before .slot-of in
+    let l = searched .before .before .before .before .before in
+    let x = l .before .before .args in
     let s = c .before .see .ensures in
-    let place = slot .ensures .0 ∙ ap slotOf (c .before .before .before .before .before .before .before .entry-at .ensures) in
-    let new = tested (c .before .before .before .before) ∙ ap not (c .before .before .before .if1 .left) in (
+    let place = slot .ensures .0 ∙ ap slotOf (searched .before .before .before .entry-at .ensures) in
+    let new = tested searched ∙ ap not (c .before .before .before .if1 .left) in (
       omega arith,
-      ap length s ∙ markIf-length _ _ _ ∙ l .inv .1,
-      rw s (seen-more (l .seen) (now (x .markers)) (l .k) (l .inv .2) (slot .result) (l .inv .1) (slot .ensures .1) place),
-      every-pass (unlike (entriesIn (x .count) (now (x .markers)))) (l .k) (l .inv .3) new,
+      ap length s ∙ markIf-length _ _ _ ∙ l .loop .inv .1,
+      rw s (seen-more (l .loop .seen) (now (x .markers)) (l .loop .k) (l .loop .inv .2) (slot .result) (l .loop .inv .1) (slot .ensures .1) place),
+      every-pass (unlike (entriesIn (x .count) (now (x .markers)))) (l .loop .k) (l .loop .inv .3) new,
     )
 
 returns-2 : tie.Need-returns-2 Inv-loop μ-loop
@@ -97,17 +80,5 @@ pub entries-unlike-spec : {M : Type 1} → statement M
 entries-unlike-spec =
     tie.close
     (tie.spec
-    Inv-loop
-    μ-loop
-    loop-holds
-    entry-at-requires
-    slot-of-requires
-    slice-aggregate-is-listed
-    is-listed-requires
-    returns
-    slice-aggregate-see
-    see-requires
-    add-k
-    loop-less
-    loop-again
-    returns-2)
+    Inv-loop μ-loop loop-holds (λ c κs. search needs) (λ c κs. search needs) (λ c. search needs) is-listed-requires returns (λ c. search needs)
+    see-requires (λ c. search needs) (λ c. search needs) loop-again returns-2)

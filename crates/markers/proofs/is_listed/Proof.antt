@@ -10,12 +10,6 @@ use Rattle.markers.proofs.Laws.{listed-found, unseen}
 use Rattle.markers.proofs.is_listed.Statement.{statement}
 use Rattle.markers.proofs.is_listed.Tie as tie
 
-is-seen-requires : tie.Need-is-seen-requires
-is-seen-requires c κs = search needs
-
-find-entry-requires : tie.Need-find-entry-requires
-find-entry-requires c κs = search needs
-
 returns : tie.Need-returns
 returns c =
     let x = c .before .before .before .before .before .args in
@@ -30,4 +24,4 @@ returns-2 c =
     (ap (marked (now (x .seen)) 0) (sym (p .0 .2)) ∙ sym (c .before .is-seen .ensures) ∙ c .if1 .left))
 
 pub is-listed-spec : {M : Type 1} → statement M
-is-listed-spec = tie.close (tie.spec is-seen-requires find-entry-requires returns returns-2)
+is-listed-spec = tie.close (tie.spec (λ c κs. search needs) (λ c κs. search needs) returns returns-2)

@@ -10,15 +10,6 @@ use Rattle.marks.specs.Marks.{marked}
 use Rattle.markers.proofs.is_seen.Statement.{statement}
 use Rattle.markers.proofs.is_seen.Tie as tie
 
-mul-result : tie.Need-mul-result
-mul-result c = search needs
-
-shared-slice-read-result : tie.Need-shared-slice-read-result
-shared-slice-read-result c = search needs
-
-shr-result : tie.Need-shr-result
-shr-result c = search needs
-
 returns : tie.Need-returns
 unfolding marked
 returns c =
@@ -26,4 +17,4 @@ returns c =
     ap (λ (n : ℕ). bit (getD (now (x .seen)) n 0) (x .slot % 64)) (sym (zero-add (x .slot / 64)))
 
 pub is-seen-spec : {M : Type 1} → statement M
-is-seen-spec = tie.close (tie.spec mul-result shared-slice-read-result shr-result returns)
+is-seen-spec = tie.close (tie.spec (λ c. search needs) (λ c. search needs) (λ c. search needs) returns)

@@ -11,24 +11,6 @@ use Rattle.marks.specs.Marks.{markIf}
 use Rattle.markers.proofs.see.Statement.{statement}
 use Rattle.markers.proofs.see.Tie as tie
 
-mul-seen : tie.Need-mul-seen
-mul-seen c = search needs
-
-slice-read-seen : tie.Need-slice-read-seen
-slice-read-seen c = search needs
-
-shl-seen : tie.Need-shl-seen
-shl-seen c = search needs
-
-mul-seen-2 : tie.Need-mul-seen-2
-mul-seen-2 c = search needs
-
-slice-write-seen : tie.Need-slice-write-seen
-slice-write-seen c = search needs
-
-same-length : tie.Need-same-length
-same-length c = search needs
-
 returns : tie.Need-returns
 unfolding markIf
 returns c =
@@ -38,4 +20,5 @@ returns c =
 pub see-spec : {M : Type 1} → statement M
 see-spec =
     tie.close
-    (tie.spec mul-seen slice-read-seen shl-seen mul-seen-2 slice-write-seen same-length returns)
+    (tie.spec
+    (λ c. search needs) (λ c. search needs) (λ c. search needs) (λ c. search needs) (λ c. search needs) (λ c. search needs) returns)

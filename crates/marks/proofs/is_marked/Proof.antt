@@ -5,22 +5,9 @@ use Rattle.marks.specs.Marks.{marked}
 use Rattle.marks.proofs.is_marked.Statement.{statement}
 use Rattle.marks.proofs.is_marked.Tie as tie
 
-add-result : tie.Need-add-result
-add-result c = search needs
-
-mul-result : tie.Need-mul-result
-mul-result c = search needs
-
-shared-slice-read-result : tie.Need-shared-slice-read-result
-shared-slice-read-result c = search needs
-
-shr-result : tie.Need-shr-result
-shr-result c = search needs
-
 returns : tie.Need-returns
 unfolding marked
 returns c = refl
 
 pub is-marked-spec : {M : Type 1} → statement M
-is-marked-spec =
-    tie.close (tie.spec add-result mul-result shared-slice-read-result shr-result returns)
+is-marked-spec = tie.close (tie.spec (λ c. search needs) (λ c. search needs) (λ c. search needs) (λ c. search needs) returns)

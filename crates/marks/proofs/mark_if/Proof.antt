@@ -11,24 +11,6 @@ use Rattle.laws.proofs.Bits.{one-shifted}
 use Rattle.marks.proofs.mark_if.Statement.{statement}
 use Rattle.marks.proofs.mark_if.Tie as tie
 
-mul-row : tie.Need-mul-row
-mul-row c = search needs
-
-slice-read-row : tie.Need-slice-read-row
-slice-read-row c = search needs
-
-shl-row : tie.Need-shl-row
-shl-row c = search needs
-
-mul-row-2 : tie.Need-mul-row-2
-mul-row-2 c = search needs
-
-slice-write-row : tie.Need-slice-write-row
-slice-write-row c = search needs
-
-same-length : tie.Need-same-length
-same-length c = search needs
-
 returns : tie.Need-returns
 unfolding markIf
 returns c =
@@ -44,11 +26,4 @@ pub mark-if-spec : {M : Type 1} → statement M
 mark-if-spec =
     tie.close
     (tie.spec
-    mul-row
-    slice-read-row
-    shl-row
-    mul-row-2
-    slice-write-row
-    same-length
-    returns
-    returns-2)
+    (λ c. search needs) (λ c. search needs) (λ c. search needs) (λ c. search needs) (λ c. search needs) (λ c. search needs) returns returns-2)

@@ -1,178 +1,145 @@
 -- Nothing is found so far, at each of the three loops; each way through them is one law of proofs/Search.
 use Prim.Native.Nat.{_-_}
-use mathlib.Core.Path.{sym, _∙_, subst}
-use Rattle.pairs.specs.Pairs.{SmallFigure}
+use mathlib.Core.Path.{_≡_, sym, _∙_, subst}
+use mathlib.Core.Bool.{true}
+use denote.Ref.{now}
 use borrow.Author.Tests.{not-true, not-false}
-use Rattle.pairs.proofs.Laws.{half-pair}
-use Rattle.pairs.proofs.Search.{AtReceiver, AtSender, AtFigure, begin, nothing-row, row, nowhere, skip-pair, whole-pair, pair, next-row, pass, next-pair, found, small-figure}
-use native.Mathlib.Omega.{arith}
+use Rattle.records.proofs.KindLaws.{receiver-is}
+use Rattle.pairs.specs.declared.Side.{Side}
+use Rattle.pairs.specs.Pairs.{SmallFigure}
+use Rattle.pairs.proofs.Laws.{Setting, setting, Held, alive, name-row, half-pair, argument-rows}
+use Rattle.pairs.proofs.Search.{AtReceiver, AtSender, AtFigure, begin, nothing-row, row, nowhere, skip-pair}
+use Rattle.pairs.proofs.Search.{whole-pair, pair, next-row, pass, next-pair, found, small-figure}
 use borrow.Author.Needs.{needs}
+use native.Mathlib.Omega.{arith}
 use Rattle.pairs.proofs.first_pair.Statement.{statement}
 use Rattle.pairs.proofs.first_pair.Tie as tie
 
 abbrev Inv-balance : tie.InvT-balance
-Inv-balance rule file t table z rows loads bounds nodes answer₀ p rp count q rq n₀ answer n =
-    AtFigure rule file t table z rows loads bounds p rp count q rq answer n
+Inv-balance rule file t balances rows loads bounds nodes answer₀ i p count j q n₀ answer n =
+    AtFigure rule (setting file t balances rows loads bounds) p count q answer n
 
 abbrev μ-balance : tie.MeasureT-balance
-μ-balance rule file t table z rows loads bounds nodes answer₀ p rp count q rq n₀ answer n = count - n
+μ-balance rule file t balances rows loads bounds nodes answer₀ i p count j q n₀ answer n = count - n
 
 abbrev Inv-sender : tie.InvT-sender
-Inv-sender rule file t table z rows loads bounds nodes answer₀ p rp count q₀ answer q =
-    AtSender rule file t table z rows loads bounds p rp count answer q
+Inv-sender rule file t balances rows loads bounds nodes answer₀ i p count j₀ answer j =
+    AtSender rule (setting file t balances rows loads bounds) p count answer j
 
 abbrev μ-sender : tie.MeasureT-sender
-μ-sender rule file t table z rows loads bounds nodes answer₀ p rp count q₀ answer q = t .nodes - q
+μ-sender rule file t balances rows loads bounds nodes answer₀ i p count j₀ answer j = t .nodes - j
 
 abbrev Inv-receiver : tie.InvT-receiver
-Inv-receiver rule file t table z rows loads bounds nodes answer₀ p₀ answer p =
-    AtReceiver rule file t table z rows loads bounds answer p
+Inv-receiver rule file t balances rows loads bounds nodes answer₀ i₀ answer i = AtReceiver rule (setting file t balances rows loads bounds) answer i
 
 abbrev μ-receiver : tie.MeasureT-receiver
-μ-receiver rule file t table z rows loads bounds nodes answer₀ p₀ answer p = t .nodes - p
+μ-receiver rule file t balances rows loads bounds nodes answer₀ i₀ answer i = t .nodes - i
 
-receiver-holds :
-    tie.Need-receiver-holds Inv-balance μ-balance Inv-sender μ-sender Inv-receiver μ-receiver
+-- the setting, and the two sides, once their records are read
+module _ (c : tie.After-node-at Inv-balance μ-balance Inv-sender μ-sender Inv-receiver μ-receiver) where
+  abbrev given : Setting
+  given =
+      let x = c .before .before .before .before .before .before .before .args in
+      setting (now (x .file)) (x .t) (x .balances) (now (x .rows)) (now (x .loads)) (now (x .bounds))
+
+  abbrev receiver : Side
+  receiver = record { number = c .before .before .receiver .i; node = c .node-at .result }
+
+  held-receiver : Held given receiver
+  held-receiver = record { below = c .before .receiver-test .taken; is = c .node-at .ensures }
+
+abbrev first-read : tie.After-node-at2 Inv-balance μ-balance Inv-sender μ-sender Inv-receiver μ-receiver
+    → tie.After-node-at Inv-balance μ-balance Inv-sender μ-sender Inv-receiver μ-receiver
+first-read c = c .before .before .before .before .before
+
+module _ (c : tie.After-node-at2 Inv-balance μ-balance Inv-sender μ-sender Inv-receiver μ-receiver) where
+  abbrev sender : Side
+  sender = record { number = c .before .before .sender .j; node = c .node-at2 .result }
+
+  held-sender : Held (given (first-read c)) sender
+  held-sender = record { below = c .before .sender-test .taken; is = c .node-at2 .ensures }
+
+-- a pair that was found to be live
+lives : (c : tie.Else2 Inv-balance μ-balance Inv-sender μ-sender Inv-receiver μ-receiver)
+    → let b = c .before .before in alive (given (first-read b)) (receiver (first-read b)) (sender b) ≡ true
+lives c = sym (c .before .live .ensures) ∙ not-false _ (c .if2 .left)
+
+receiver-holds : tie.Need-receiver-holds Inv-balance μ-balance Inv-sender μ-sender Inv-receiver μ-receiver
 receiver-holds c =
-    begin (c .before .before .before .before .before .pre)
+    let pre = c .before .before .before .before .pre in
+    begin record { read = pre .0; lists = pre .1; weighed = pre .2 }
 
-mul-record-at : tie.Need-mul-record-at Inv-balance μ-balance Inv-sender μ-sender Inv-receiver μ-receiver
-mul-record-at c = search needs
-
-add-record-at : tie.Need-add-record-at Inv-balance μ-balance Inv-sender μ-sender Inv-receiver μ-receiver
-add-record-at c = search needs
-
-record-at-requires :
-    tie.Need-record-at-requires Inv-balance μ-balance Inv-sender μ-sender Inv-receiver μ-receiver
-record-at-requires c κs = search needs
-
-figures-requires :
-    tie.Need-figures-requires Inv-balance μ-balance Inv-sender μ-sender Inv-receiver μ-receiver
-figures-requires c κs = search needs
-
-add-p : tie.Need-add-p Inv-balance μ-balance Inv-sender μ-sender Inv-receiver μ-receiver
-add-p c = search needs
-
-receiver-less : tie.Need-receiver-less Inv-balance μ-balance Inv-sender μ-sender Inv-receiver μ-receiver
-receiver-less c = search needs
-
-receiver-again :
-    tie.Need-receiver-again Inv-balance μ-balance Inv-sender μ-sender Inv-receiver μ-receiver
+receiver-again : tie.Need-receiver-again Inv-balance μ-balance Inv-sender μ-sender Inv-receiver μ-receiver
 receiver-again c =
-    nothing-row
-    (c .before .before .before .before .before .receiver .inv)
-    (record { below = c .before .before .before .before .receiver-test .taken; is = c .before .before .record-at .ensures })
+    nothing-row {p = receiver (c .before .before)} (c .before .before .before .before .receiver .inv) (held-receiver (c .before .before))
     (sym (c .before .figures .ensures) ∙ c .if1 .taken)
 
 sender-holds : tie.Need-sender-holds Inv-balance μ-balance Inv-sender μ-sender Inv-receiver μ-receiver
-sender-holds c =
-    row
-    (c .before .before .before .before .before .receiver .inv)
-    (record { below = c .before .before .before .before .receiver-test .taken; is = c .before .before .record-at .ensures })
-    (c .before .figures .ensures)
-    (c .if1 .left)
-
-mul-record-at-2 :
-    tie.Need-mul-record-at-2 Inv-balance μ-balance Inv-sender μ-sender Inv-receiver μ-receiver
-mul-record-at-2 c = search needs
-
-add-record-at-2 :
-    tie.Need-add-record-at-2 Inv-balance μ-balance Inv-sender μ-sender Inv-receiver μ-receiver
-add-record-at-2 c = search needs
-
-record-at-requires-2 :
-    tie.Need-record-at-requires-2 Inv-balance μ-balance Inv-sender μ-sender Inv-receiver μ-receiver
-record-at-requires-2 c κs = search needs
+sender-holds c = row (c .before .before .before .before .receiver .inv) (held-receiver (c .before .before)) (c .before .figures .ensures) (c .if1 .left)
 
 live-requires : tie.Need-live-requires Inv-balance μ-balance Inv-sender μ-sender Inv-receiver μ-receiver
-live-requires c κs = search needs
-
-add-q : tie.Need-add-q Inv-balance μ-balance Inv-sender μ-sender Inv-receiver μ-receiver
-add-q c = search needs
-
-sender-less : tie.Need-sender-less Inv-balance μ-balance Inv-sender μ-sender Inv-receiver μ-receiver
-sender-less c = search needs
+live-requires c κs =
+    let w = c .before .before .sender .inv in
+    let g = w .receiver .given in
+    let half = g .weighed .half in
+    let few = g .lists .few in
+    let many = g .lists .manyBounds in (
+      (omega arith, half _ (w .reads .below), half _ (c .before .sender-test .taken)),
+      (receiver-is _ (w .receives) .0, name-row g (w .reads), name-row g (held-sender c)),
+    )
 
 sender-again : tie.Need-sender-again Inv-balance μ-balance Inv-sender μ-sender Inv-receiver μ-receiver
 sender-again c =
-    skip-pair
-    (c .before .before .before .before .before .sender .inv)
-    (record { below = c .before .before .before .before .sender-test .taken; is = c .before .before .record-at2 .ensures })
+    skip-pair {q = sender (c .before .before)} (c .before .before .before .before .sender .inv) (held-sender (c .before .before))
     (sym (c .before .live .ensures) ∙ not-true _ (c .if2 .taken))
 
 pair-holds-requires : tie.Need-pair-holds-requires Inv-balance μ-balance Inv-sender μ-sender Inv-receiver μ-receiver
 pair-holds-requires c κs =
-    let w = c .before .before .before .before .before .sender .inv in
-    let ready = w .receiver .ready in
-    let lives = sym (c .before .live .ensures) ∙ not-false _ (c .if2 .left) in
-    let l = c .before .before .before .before .sender-test .taken in
-    (ready .manyLoads, half-pair ready (w .reads) (w .receives) (record { below = l; is = c .before .before .record-at2 .ensures }) lives)
+    let w = c .before .before .before .before .sender .inv in
+    half-pair (w .receiver .given) (w .reads) (w .receives) (held-sender (c .before .before)) (lives c)
 
-add-q-2 : tie.Need-add-q-2 Inv-balance μ-balance Inv-sender μ-sender Inv-receiver μ-receiver
-add-q-2 c = search needs
-
-sender-less-2 : tie.Need-sender-less-2 Inv-balance μ-balance Inv-sender μ-sender Inv-receiver μ-receiver
-sender-less-2 c = search needs
-
-sender-again-2 :
-    tie.Need-sender-again-2 Inv-balance μ-balance Inv-sender μ-sender Inv-receiver μ-receiver
+sender-again-2 : tie.Need-sender-again-2 Inv-balance μ-balance Inv-sender μ-sender Inv-receiver μ-receiver
 sender-again-2 c =
-    whole-pair
-    (c .before .before .before .before .before .before .before .sender .inv)
-    (record { below = c .before .before .before .before .before .before .sender-test .taken; is = c .before .before .before .before .record-at2 .ensures })
-    (sym (c .before .before .before .live .ensures) ∙ not-false _ (c .before .before .if2 .left))
+    let b = c .before .before .before .before in
+    whole-pair {q = sender b} (c .before .before .before .before .before .before .sender .inv) (held-sender b) (lives (c .before .before))
     (sym (c .before .pair-holds .ensures) ∙ c .if3 .taken)
 
 balance-holds : tie.Need-balance-holds Inv-balance μ-balance Inv-sender μ-sender Inv-receiver μ-receiver
 balance-holds c =
-    pair
-    (c .before .before .before .before .before .before .before .sender .inv)
-    (record { below = c .before .before .before .before .before .before .sender-test .taken; is = c .before .before .before .before .record-at2 .ensures })
-    (sym (c .before .before .before .live .ensures) ∙ not-false _ (c .before .before .if2 .left))
+    let b = c .before .before .before .before in
+    pair (c .before .before .before .before .before .before .sender .inv) (held-sender b) (lives (c .before .before))
 
-figure-holds-requires :
-    tie.Need-figure-holds-requires Inv-balance μ-balance Inv-sender μ-sender Inv-receiver μ-receiver
+figure-holds-requires : tie.Need-figure-holds-requires
+    Inv-balance
+    μ-balance
+    Inv-sender
+    μ-sender
+    Inv-receiver
+    μ-receiver
 figure-holds-requires c κs =
     let i = c .before .balance .inv in
     let w = i .sender in
-    (w .receiver .ready, ((w .reads, i .reads, w .receives, rw (← w .many) (c .balance-test .taken)), i .lives))
-
-add-n : tie.Need-add-n Inv-balance μ-balance Inv-sender μ-sender Inv-receiver μ-receiver
-add-n c = search needs
-
-balance-less : tie.Need-balance-less Inv-balance μ-balance Inv-sender μ-sender Inv-receiver μ-receiver
-balance-less c = search needs
+    let g = w .receiver .given in
+    let n = rw (w .many) at (c .balance-test .taken) in (
+      λ e. argument-rows g (w .reads) (w .receives) (i .reads) (i .lives) _ (rw e at n),
+      λ e. half-pair g (w .reads) (w .receives) (i .reads) (i .lives) _ (rw e at n),
+    )
 
 balance-again : tie.Need-balance-again Inv-balance μ-balance Inv-sender μ-sender Inv-receiver μ-receiver
 balance-again c =
-    pass (c .before .before .before .balance .inv) (c .before .before .balance-test .taken) (sym (c .before .figure-holds .ensures) ∙ not-false _ (c .if4 .left))
+    pass (c .before .before .before .balance .inv) (c .before .before .balance-test .taken)
+    (sym (c .before .figure-holds .ensures) ∙ not-false _ (c .if4 .left))
 
-add-q-3 : tie.Need-add-q-3 Inv-balance μ-balance Inv-sender μ-sender Inv-receiver μ-receiver
-add-q-3 c = search needs
+sender-again-3 : tie.Need-sender-again-3 Inv-balance μ-balance Inv-sender μ-sender Inv-receiver μ-receiver
+sender-again-3 c = next-pair (c .before .balance .inv) (omega arith)
 
-sender-less-3 : tie.Need-sender-less-3 Inv-balance μ-balance Inv-sender μ-sender Inv-receiver μ-receiver
-sender-less-3 c = search needs
-
-sender-again-3 :
-    tie.Need-sender-again-3 Inv-balance μ-balance Inv-sender μ-sender Inv-receiver μ-receiver
-sender-again-3 c =
-    next-pair (c .before .balance .inv) (omega arith)
-
-add-p-2 : tie.Need-add-p-2 Inv-balance μ-balance Inv-sender μ-sender Inv-receiver μ-receiver
-add-p-2 c = search needs
-
-receiver-less-2 :
-    tie.Need-receiver-less-2 Inv-balance μ-balance Inv-sender μ-sender Inv-receiver μ-receiver
-receiver-less-2 c = search needs
-
-receiver-again-2 :
-    tie.Need-receiver-again-2 Inv-balance μ-balance Inv-sender μ-sender Inv-receiver μ-receiver
-receiver-again-2 c =
-    next-row (c .before .sender .inv) (omega arith)
+receiver-again-2 : tie.Need-receiver-again-2 Inv-balance μ-balance Inv-sender μ-sender Inv-receiver μ-receiver
+receiver-again-2 c = next-row (c .before .sender .inv) (omega arith)
 
 returns : tie.Need-returns Inv-balance μ-balance Inv-sender μ-sender Inv-receiver μ-receiver
 returns c =
-    (nowhere (c .before .receiver .inv) (omega arith), subst SmallFigure (sym (c .before .receiver .inv .none)) tt)
+    let l = c .before .receiver .inv in
+    (nowhere l (omega arith), subst SmallFigure (sym (l .none)) tt)
 
 returns-2 : tie.Need-returns-2 Inv-balance μ-balance Inv-sender μ-sender Inv-receiver μ-receiver
 returns-2 c =
@@ -184,42 +151,8 @@ pub first-pair-spec : {M : Type 1} → statement M
 first-pair-spec =
     tie.close
     (tie.spec
-    Inv-balance
-    μ-balance
-    Inv-sender
-    μ-sender
-    Inv-receiver
-    μ-receiver
-    receiver-holds
-    mul-record-at
-    add-record-at
-    record-at-requires
-    figures-requires
-    add-p
-    receiver-less
-    receiver-again
-    sender-holds
-    mul-record-at-2
-    add-record-at-2
-    record-at-requires-2
-    live-requires
-    add-q
-    sender-less
-    sender-again
-    pair-holds-requires
-    add-q-2
-    sender-less-2
-    sender-again-2
-    balance-holds
-    figure-holds-requires
-    add-n
-    balance-less
-    balance-again
-    add-q-3
-    sender-less-3
-    sender-again-3
-    add-p-2
-    receiver-less-2
-    receiver-again-2
-    returns
-    returns-2)
+    Inv-balance μ-balance Inv-sender μ-sender Inv-receiver μ-receiver receiver-holds (λ c κs. search needs) (λ c κs. search needs)
+    (λ c. search needs) (λ c. search needs) receiver-again sender-holds (λ c κs. search needs) live-requires (λ c. search needs)
+    (λ c. search needs) sender-again pair-holds-requires (λ c. search needs) (λ c. search needs) sender-again-2 balance-holds
+    figure-holds-requires (λ c. search needs) (λ c. search needs) balance-again (λ c. search needs) (λ c. search needs) sender-again-3
+    (λ c. search needs) (λ c. search needs) receiver-again-2 returns returns-2)

@@ -1,71 +1,68 @@
--- The tests of a live pair, one after another, by the records and the checker's lists.
-use mathlib.Core.Path.{sym, _∙_}
-use borrow.Author.Tests.{not-true, not-false}
-use Rattle.pairs.proofs.Laws.{live-else, live-arity, live-unshared, live-fits, name-row, half-row}
+-- The tests of a live pair, one after another. Both sides are agents, so their channels have rows.
+use Prim.Native.Nat.{_+_, _*_, _<_}
+use mathlib.Core.Path.{_≡_, sym, _∙_}
+use mathlib.Core.Bool.{true}
+use denote.Ref.{now}
+use lib.ListN.{length}
+use borrow.Author.Tests.{eq-eqb, ne-eqb, not-true, not-false}
+use Rattle.model.specs.Memory.{isOut}
+use Rattle.records.specs.Record.{nodeOf}
+use Rattle.records.proofs.KindLaws.{sender-is}
+use borrow.Author.Needs.{needs}
 use native.Mathlib.Omega.{arith}
 use Rattle.pairs.proofs.live.Statement.{statement}
 use Rattle.pairs.proofs.live.Tie as tie
 
+-- the start, seen where q sends, and that, seen where the arities are equal
+abbrev begun : tie.Else1 → tie.Start
+begun c = c .before .before .before .before .before
+
+abbrev sending : tie.Else2 → tie.Else1
+sending c = c .before .before .before
+
+sends : (c : tie.Else1) → isOut (nodeOf (begun c .args .q .node)) ≡ true
+sends c = sym (c .before .sends .ensures) ∙ not-false _ (c .if1 .left)
+
+channels : (c : tie.Else1) → let x = begun c .args in
+    (4 * x .p .node .name + 3 < length (now (x .rows))) × (4 * x .q .node .name + 3 < length (now (x .rows)))
+channels c =
+    let s = begun c in
+    (s .pre .1 .1 (s .pre .1 .0), s .pre .1 .2 (sender-is (s .args .q .node) (sends c) .0))
+
 returns : tie.Need-returns
-returns c =
-    let pre = c .before .before .before .before .before .before .before .pre in
-    sym (live-else (pre .0) (pre .1 .0) (pre .1 .2) (pre .1 .1) (c .if1 .taken))
+returns c = rw (sym (c .before .sends .ensures) ∙ not-true _ (c .if1 .taken))
 
 returns-2 : tie.Need-returns-2
-returns-2 c =
-    let pre = c .before .before .before .before .before .before .before .before .before .before .pre in
-    sym (live-arity (pre .0) (pre .1 .0) (pre .1 .2) (pre .1 .1) (c .before .before .before .if1 .left) (c .if2 .taken))
+returns-2 c = rw (sends (c .before .before .before), ne-eqb _ _ (c .if2 .taken))
 
 mul-shares : tie.Need-mul-shares
 mul-shares c =
-    let pre = c .before .before .before .before .before .before .before .before .before .before .before .pre in
-    let fp = name-row (pre .0) (pre .1 .0) (omega arith) in
+    let n = channels (sending (c .before)) in
     record { fits = omega arith }
 
 mul-shares-2 : tie.Need-mul-shares-2
 mul-shares-2 c =
-    let pre = c .before .before .before .before .before .before .before .before .before .before .before .before .pre in
-    let fq = name-row (pre .0) (pre .1 .1) (omega arith) in
+    let n = channels (sending (c .before .before)) in
     record { fits = omega arith }
 
 shares-requires : tie.Need-shares-requires
-shares-requires c κs =
-    let pre = c .before .before .before .before .before .before .before .before .before .before .before .before .pre in
-    (name-row (pre .0) (pre .1 .0) (omega arith), name-row (pre .0) (pre .1 .1) (omega arith))
+shares-requires c κs = channels (sending (c .before .before))
 
 returns-3 : tie.Need-returns-3
 returns-3 c =
-    let pre = c .before .before .before .before .before .before .before .before .before .before .before .before .before .before .pre in
-    let sends = c .before .before .before .before .before .before .before .if1 .left in
-    let same = c .before .before .before .before .if2 .left in
-    let unshared = sym (c .before .shares .ensures) ∙ not-true _ (c .if3 .taken) in
-    sym (live-unshared (pre .0) (pre .1 .0) (pre .1 .2) (pre .1 .1) sends same unshared)
+    let a = c .before .before .before .before in
+    rw (sends (sending a), eq-eqb _ _ (a .if2 .left), sym (c .before .shares .ensures) ∙ not-true _ (c .if3 .taken))
 
 fit-both-requires : tie.Need-fit-both-requires
-fit-both-requires c κs =
-    let pre = c .before .before .before .before .before .before .before .before .before .before .before .before .before .before .pre in
-    let few = pre .0 .array .formed .fewNodes in
-    let p = pre .1 .0 .below in
-    let q = pre .1 .1 .below in
-    ((pre .0 .table .laid .fewBalances, omega arith, omega arith, pre .0 .manyLoads, pre .0 .manyBounds), (half-row (pre .0) _ p, half-row (pre .0) _ q))
+fit-both-requires c κs = begun (sending (c .before .before .before .before)) .pre .0
 
 returns-4 : tie.Need-returns-4
 returns-4 c =
-    let pre = c .before .before .before .before .before .before .before .before .before .before .before .before .before .before .before .pre in
-    let sends = c .before .before .before .before .before .before .before .before .if1 .left in
-    let same = c .before .before .before .before .before .if2 .left in
-    let shared = sym (c .before .before .shares .ensures) ∙ not-false _ (c .before .if3 .left) in
-    c .fit-both .ensures ∙ sym (live-fits (pre .0) (pre .1 .0) (pre .1 .2) (pre .1 .1) sends same shared)
+    let a = c .before .before .before .before .before in
+    rw (sends (sending a), eq-eqb _ _ (a .if2 .left), sym (c .before .before .shares .ensures) ∙ not-false _ (c .before .if3 .left)) (c .fit-both .ensures)
 
 pub live-spec : {M : Type 1} → statement M
 live-spec =
     tie.close
     (tie.spec
-    returns
-    returns-2
-    mul-shares
-    mul-shares-2
-    shares-requires
-    returns-3
-    fit-both-requires
-    returns-4)
+    (λ c κs. search needs) returns returns-2 mul-shares mul-shares-2 shares-requires returns-3 fit-both-requires returns-4)

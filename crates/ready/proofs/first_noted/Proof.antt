@@ -23,16 +23,20 @@ Inv-loop file t threads p outs noted seen width k₀ k =
 abbrev μ-loop : tie.MeasureT-loop
 μ-loop file t threads p outs noted seen width k₀ k = noted - k
 
+-- the start, seen from the loop
+abbrev begun : tie.At-loop Inv-loop μ-loop → tie.Start Inv-loop μ-loop
+begun c = c .before .before .before .before .before
+
 -- what `meets` answers is what the definition says of the k-th noted sender
 met-here :
     (c : tie.After-meets Inv-loop μ-loop)
     → let l = c .before .before .before .before .before .loop in
-    let x = c .before .before .before .before .before .before .before .before .before .before .args in
+    let x = begun (c .before .before .before .before .before) .args in
     c .meets .result ≡ meet (x .p) (actAt (now (x .file)) (x .t) (now (x .threads)) (getD (now (x .outs)) (l .k) 0))
 met-here c =
-    let x = c .before .before .before .before .before .before .before .before .before .before .args in
+    let x = begun (c .before .before .before .before .before) .args in
     c .meets .ensures
-    ∙ ap (meet (x .p)) (c .before .act-at .ensures ∙ ap (actAt (now (x .file)) (x .t) (now (x .threads))) (c .before .before .wide .ensures .0))
+    ∙ ap (meet (x .p)) (c .before .act-at .ensures ∙ ap (actAt (now (x .file)) (x .t) (now (x .threads))) (c .before .before .byte-index .ensures .0))
 
 add-width : tie.Need-add-width Inv-loop μ-loop
 add-width c =
@@ -42,19 +46,17 @@ add-width c =
 loop-holds : tie.Need-loop-holds Inv-loop μ-loop
 loop-holds c = (omega arith, λ j h. absurd (not-suc-le-zero h))
 
-shared-slice-read-wide : tie.Need-shared-slice-read-wide Inv-loop μ-loop
-shared-slice-read-wide c =
+shared-slice-read-byte-index : tie.Need-shared-slice-read-byte-index Inv-loop μ-loop
+shared-slice-read-byte-index c =
     let few = c .before .before .before .before .before .before .before .pre .1 .1 .few in
     search needs
-
-wide-requires : tie.Need-wide-requires Inv-loop μ-loop
-wide-requires c κs = search needs
 
 mul-act-at : tie.Need-mul-act-at Inv-loop μ-loop
 mul-act-at c =
     let x = c .before .before .before .before .before .before .before .before .args in
-    let below = c .before .before .before .before .before .before .before .before .pre .1 .1 .below (c .before .before .before .loop .k) (c .before .before .loop-test .taken) in
-    let z = slot (x .t .names) (c .wide .result) (x .seen) (rw (c .wide .ensures .0) below) in
+    let pre = c .before .before .before .before .before .before .before .before .pre in
+    let below = pre .1 .1 .below (c .before .before .before .loop .k) (c .before .before .loop-test .taken) in
+    let z = slot (x .t .names) (c .byte-index .result) (x .seen) (rw (c .byte-index .ensures .0) below) in
     search needs
 
 act-at-requires : tie.Need-act-at-requires Inv-loop μ-loop
@@ -62,34 +64,28 @@ act-at-requires c κs =
     let x = c .before .before .before .before .before .before .before .before .args in
     let pre = c .before .before .before .before .before .before .before .before .pre in
     let below = pre .1 .1 .below (c .before .before .before .loop .k) (c .before .before .loop-test .taken) in
-    let s : c .wide .result < x .seen = rw (c .wide .ensures .0) below in
-    let z = slot (x .t .names) (c .wide .result) (x .seen) s in
-    ((pre .0 .0, omega arith), pre .1 .0 (c .wide .result) s)
-
-meets-requires : tie.Need-meets-requires Inv-loop μ-loop
-meets-requires c κs = search needs
+    let s : c .byte-index .result < x .seen = rw (c .byte-index .ensures .0) below in
+    let z = slot (x .t .names) (c .byte-index .result) (x .seen) s in
+    ((pre .0 .0, omega arith), pre .1 .0 (c .byte-index .result) s)
 
 returns : tie.Need-returns Inv-loop μ-loop
 returns c =
-    let x = c .before .before .before .before .before .before .before .before .before .before .before .args in
-    let pre = c .before .before .before .before .before .before .before .before .before .before .before .pre in
+    let x = begun (c .before .before .before .before .before .before) .args in
+    let pre = begun (c .before .before .before .before .before .before) .pre in
     let l = c .before .before .before .before .before .before .loop in
-    let e = c .before .before .before .wide .ensures .0 in
+    let e = c .before .before .before .byte-index .ensures .0 in
     let past = none-before (now (x .file)) (x .t) (now (x .threads)) (x .seen) (now (x .outs)) (x .noted) (pre .1 .1) (x .p)
     (l .k) (c .before .before .before .before .before .loop-test .taken) (l .inv .1) in
     (λ j h. past j (omega arith), λ h. rw e (eq-eqb _ 0 (sym (met-here (c .before)) ∙ c .if1 .taken)))
 
 add-k : tie.Need-add-k Inv-loop μ-loop
 add-k c =
-    let few = c .before .before .before .before .before .before .before .before .before .before .before .pre .1 .1 .few in
+    let few = begun (c .before .before .before .before .before .before) .pre .1 .1 .few in
     search needs
-
-loop-less : tie.Need-loop-less Inv-loop μ-loop
-loop-less c = search needs
 
 loop-again : tie.Need-loop-again Inv-loop μ-loop
 loop-again c =
-    let x = c .before .before .before .before .before .before .before .before .before .before .before .args in
+    let x = begun (c .before .before .before .before .before .before) .args in
     let l = c .before .before .before .before .before .before .loop in (
       omega arith,
       below-more (λ j. eqb (meet (x .p) (actAt (now (x .file)) (x .t) (now (x .threads)) (getD (now (x .outs)) j 0))) 0 ≡ false) (l .k) (l .inv .1)
@@ -108,17 +104,5 @@ pub first-noted-spec : {M : Type 1} → statement M
 first-noted-spec =
     tie.close
     (tie.spec
-    Inv-loop
-    μ-loop
-    add-width
-    loop-holds
-    shared-slice-read-wide
-    wide-requires
-    mul-act-at
-    act-at-requires
-    meets-requires
-    returns
-    add-k
-    loop-less
-    loop-again
-    returns-2)
+    Inv-loop μ-loop add-width loop-holds shared-slice-read-byte-index (λ c κs. search needs) mul-act-at act-at-requires (λ c κs. search needs)
+    returns add-k (λ c. search needs) loop-again returns-2)

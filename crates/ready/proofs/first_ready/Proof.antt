@@ -26,6 +26,10 @@ Inv-loop file t threads count width outs₀ noted₀ seen₀ at₀ r₀ outs not
 abbrev μ-loop : tie.MeasureT-loop
 μ-loop file t threads count width outs₀ noted₀ seen₀ at₀ r₀ outs noted seen at r = count - r
 
+-- the start, seen from the loop
+abbrev begun : tie.At-loop Inv-loop μ-loop → tie.Start Inv-loop μ-loop
+begun c = c .before .before .before .before
+
 add-width : tie.Need-add-width Inv-loop μ-loop
 add-width c =
     let few = c .before .before .before .pre .0 .0 .formed .fewNames in
@@ -50,9 +54,6 @@ act-at-requires c κs =
     let agent = agent-place (now (x .file)) (x .t) (now (x .threads)) (x .count) (pre .1) (l .r) (l .at) (c .loop-test .taken) (l .inv .1) in
     ((pre .0 .0, omega arith), agent)
 
-slice-aggregate-first-sender : tie.Need-slice-aggregate-first-sender Inv-loop μ-loop
-slice-aggregate-first-sender c = search needs
-
 first-sender-requires : tie.Need-first-sender-requires Inv-loop μ-loop
 first-sender-requires c κs =
     let pre = c .before .before .before .before .before .before .before .pre in
@@ -62,9 +63,9 @@ first-sender-requires c κs =
 returns : tie.Need-returns Inv-loop μ-loop
 unfolding firstMeeting
 returns c ch =
-    let x = c .before .before .before .before .before .before .before .before .before .before .args in
+    let x = begun (c .before .before .before .before .before .before) .args in
     let l = c .before .before .before .before .before .before .loop in
-    let pre = c .before .before .before .before .before .before .before .before .before .before .pre in
+    let pre = begun (c .before .before .before .before .before .before) .pre in
     let s = now (x .file) in
     let ws = now (x .threads) in
     let below = c .before .before .before .before .before .loop-test .taken in
@@ -76,22 +77,16 @@ returns c ch =
 
 add-at : tie.Need-add-at Inv-loop μ-loop
 add-at c =
-    let x = c .before .before .before .before .before .before .before .before .before .before .args in
+    let x = begun (c .before .before .before .before .before .before) .args in
     let l = c .before .before .before .before .before .before .loop in
     let z = slot (x .t .names) (l .r) (x .count) (c .before .before .before .before .before .loop-test .taken) in
     search needs
 
-add-r : tie.Need-add-r Inv-loop μ-loop
-add-r c = search needs
-
-loop-less : tie.Need-loop-less Inv-loop μ-loop
-loop-less c = search needs
-
 loop-again : tie.Need-loop-again Inv-loop μ-loop
 loop-again c =
-    let x = c .before .before .before .before .before .before .before .before .before .before .args in
+    let x = begun (c .before .before .before .before .before .before) .args in
     let l = c .before .before .before .before .before .before .loop in
-    let pre = c .before .before .before .before .before .before .before .before .before .before .pre in
+    let pre = begun (c .before .before .before .before .before .before) .pre in
     let s = now (x .file) in
     let ws = now (x .threads) in
     let below = c .before .before .before .before .before .loop-test .taken in
@@ -120,16 +115,5 @@ pub first-ready-spec : {M : Type 1} → statement M
 first-ready-spec =
     tie.close
     (tie.spec
-    Inv-loop
-    μ-loop
-    add-width
-    loop-holds
-    act-at-requires
-    slice-aggregate-first-sender
-    first-sender-requires
-    returns
-    add-at
-    add-r
-    loop-less
-    loop-again
-    returns-2)
+    Inv-loop μ-loop add-width loop-holds act-at-requires (λ c. search needs) first-sender-requires returns add-at (λ c. search needs)
+    (λ c. search needs) loop-again returns-2)

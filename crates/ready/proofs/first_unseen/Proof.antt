@@ -22,25 +22,30 @@ Inv-loop file t threads count p outs₀ noted seen width n₀ s₀ outs n s =
 abbrev μ-loop : tie.MeasureT-loop
 μ-loop file t threads count p outs₀ noted seen width n₀ s₀ outs n s = count - s
 
+-- the start, seen from the loop
+abbrev begun : tie.At-loop Inv-loop μ-loop → tie.Start Inv-loop μ-loop
+begun c = c .before .before .before .before .before
+
 -- what `meets` answers is what the definition says of thread s
 met-here :
     (c : tie.After-meets Inv-loop μ-loop)
-    → let x = c .before .before .before .before .before .before .before .before .before .args in
+    → let x = begun (c .before .before .before .before) .args in
     c .meets .result ≡ meet (x .p) (actAt (now (x .file)) (x .t) (now (x .threads)) (c .before .before .before .before .loop .s))
-met-here c = c .meets .ensures ∙ ap (meet (c .before .before .before .before .before .before .before .before .before .args .p)) (c .before .before .act-at .ensures)
+met-here c = c .meets .ensures ∙ ap (meet (begun (c .before .before .before .before) .args .p)) (c .before .before .act-at .ensures)
 
 -- the list is that of one thread more
 more :
     (c : tie.After-meets Inv-loop μ-loop)
-    → let x = c .before .before .before .before .before .before .before .before .before .args in
+    → let x = begun (c .before .before .before .before) .args in
     let l = c .before .before .before .before .loop in
     Noted (now (x .file)) (x .t) (now (x .threads)) (l .s + 1) (set (l .outs) (l .n) (l .s)) (c .before .count-out .result)
 more c =
-    let x = c .before .before .before .before .before .before .before .before .before .args in
+    let x = begun (c .before .before .before .before) .args in
     let l = c .before .before .before .before .loop in
     let room : l .s < length (l .outs) = omega (arith, l .inv .1) in
     rw (c .before .count-out .ensures)
-    (noted-more (now (x .file)) (x .t) (now (x .threads)) (l .s) (l .outs) (l .n) (l .inv .2) (c .before .before .act-at .result) (c .before .before .act-at .ensures) room)
+    (noted-more (now (x .file)) (x .t) (now (x .threads)) (l .s) (l .outs) (l .n) (l .inv .2) (c .before .before .act-at .result)
+    (c .before .before .act-at .ensures) room)
 
 add-width : tie.Need-add-width Inv-loop μ-loop
 add-width c =
@@ -65,9 +70,6 @@ act-at-requires c κs =
     let z = slot (x .t .names) (c .before .loop .s) (x .count) (c .loop-test .taken) in
     ((pre .0 .0, omega arith), pre .1 .0 (c .before .loop .s) (c .loop-test .taken))
 
-cast-outs : tie.Need-cast-outs Inv-loop μ-loop
-cast-outs c = search needs
-
 slice-write-outs : tie.Need-slice-write-outs Inv-loop μ-loop
 slice-write-outs c =
     let few = c .before .before .loop .inv .2 .few in
@@ -78,29 +80,19 @@ count-out-requires c κs =
     let few = c .before .before .loop .inv .2 .few in
     search needs
 
-meets-requires : tie.Need-meets-requires Inv-loop μ-loop
-meets-requires c κs = search needs
-
-add-t17 : tie.Need-add-t17 Inv-loop μ-loop
-add-t17 c = search needs
-
 same-length : tie.Need-same-length Inv-loop μ-loop
 same-length c =
     let l = c .before .before .before .before .before .loop in
-    length-set (l .outs) (l .n) (l .s) ∙ l .inv .1 ∙ sym (c .before .before .before .before .before .before .before .before .before .before .pre .0 .3)
+    length-set (l .outs) (l .n) (l .s) ∙ l .inv .1 ∙ sym (begun (c .before .before .before .before .before) .pre .0 .3)
 
 returns : tie.Need-returns Inv-loop μ-loop
-returns c = ((c .before .before .before .before .before .loop .inv .3, λ h. eq-eqb _ 0 (sym (met-here (c .before)) ∙ c .if1 .taken)), omega arith, more (c .before))
-
-add-s : tie.Need-add-s Inv-loop μ-loop
-add-s c = search needs
-
-loop-less : tie.Need-loop-less Inv-loop μ-loop
-loop-less c = search needs
+returns c =
+    let none = c .before .before .before .before .before .loop .inv .3 in
+    ((none, λ h. eq-eqb _ 0 (sym (met-here (c .before)) ∙ c .if1 .taken)), omega arith, more (c .before))
 
 loop-again : tie.Need-loop-again Inv-loop μ-loop
 loop-again c =
-    let x = c .before .before .before .before .before .before .before .before .before .before .args in
+    let x = begun (c .before .before .before .before .before) .args in
     let l = c .before .before .before .before .before .loop in (
       omega arith,
       length-set (l .outs) (l .n) (l .s) ∙ l .inv .1,
@@ -108,9 +100,6 @@ loop-again c =
       below-more (λ j. eqb (meet (x .p) (actAt (now (x .file)) (x .t) (now (x .threads)) j)) 0 ≡ false) (l .s) (l .inv .3)
           (ne-eqb _ 0 (λ q. c .if1 .left (met-here (c .before) ∙ q))),
     )
-
-same-length-2 : tie.Need-same-length-2 Inv-loop μ-loop
-same-length-2 c = search needs
 
 returns-2 : tie.Need-returns-2 Inv-loop μ-loop
 returns-2 c =
@@ -126,21 +115,6 @@ pub first-unseen-spec : {M : Type 1} → statement M
 first-unseen-spec =
     tie.close
     (tie.spec
-    Inv-loop
-    μ-loop
-    add-width
-    loop-holds
-    mul-act-at
-    act-at-requires
-    cast-outs
-    slice-write-outs
-    count-out-requires
-    meets-requires
-    add-t17
-    same-length
-    returns
-    add-s
-    loop-less
-    loop-again
-    same-length-2
+    Inv-loop μ-loop add-width loop-holds mul-act-at act-at-requires (λ c. search needs) slice-write-outs count-out-requires
+    (λ c κs. search needs) (λ c. search needs) same-length returns (λ c. search needs) (λ c. search needs) loop-again (λ c. search needs)
     returns-2)

@@ -1,6 +1,6 @@
 -- `ready::meets` meets its contract: the three tests in their order.
 use mathlib.Core.Bool.{not, _&&_}
-use lib.Dec.{eqb, leb}
+use lib.Dec.{eqb}
 use borrow.Author.Tests.{not-true, not-false, eq-eqb, ne-eqb}
 use Rattle.ready.specs.Ready.{meet}
 use Rattle.ready.proofs.meets.Statement.{statement}
@@ -10,33 +10,35 @@ returns : tie.Need-returns
 unfolding meet
 returns c =
     let x = c .before .before .before .args in
-    let one = leb 5 (x .p .kind) && eqb (x .q .kind) 4 in
+    let one = x .p .receives && x .q .sends in
     rw (not-true one (c .if1 .taken))
 
 returns-2 : tie.Need-returns-2
 unfolding meet
 returns-2 c =
     let x = c .before .before .before .before .before .before .args in
-    let one = leb 5 (x .p .kind) && eqb (x .q .kind) 4 in
+    let one = x .p .receives && x .q .sends in
     rw (not-false one (c .before .before .before .if1 .left), ne-eqb (x .p .arity) (x .q .arity) (c .if2 .taken))
 
 returns-3 : tie.Need-returns-3
 unfolding meet
 returns-3 c =
-    let x = c .before .before .before .before .before .before .before .before .before .before .args in
-    let one = leb 5 (x .p .kind) && eqb (x .q .kind) 4 in
+    let same = c .before .before .before .before in
+    let x = same .before .before .before .before .before .before .args in
+    let one = x .p .receives && x .q .sends in
     let three = not (eqb (x .p .channel) 0) && eqb (x .p .channel) (x .q .channel) in
-    let two = eq-eqb (x .p .arity) (x .q .arity) (c .before .before .before .before .if2 .left) in
-    rw (not-false one (c .before .before .before .before .before .before .before .if1 .left), two, not-true three (c .if3 .taken))
+    let two = eq-eqb (x .p .arity) (x .q .arity) (same .if2 .left) in
+    rw (not-false one (same .before .before .before .if1 .left), two, not-true three (c .if3 .taken))
 
 returns-4 : tie.Need-returns-4
 unfolding meet
 returns-4 c =
-    let x = c .before .before .before .before .before .before .before .before .before .before .args in
-    let one = leb 5 (x .p .kind) && eqb (x .q .kind) 4 in
+    let same = c .before .before .before .before in
+    let x = same .before .before .before .before .before .before .args in
+    let one = x .p .receives && x .q .sends in
     let three = not (eqb (x .p .channel) 0) && eqb (x .p .channel) (x .q .channel) in
-    let two = eq-eqb (x .p .arity) (x .q .arity) (c .before .before .before .before .if2 .left) in
-    rw (not-false one (c .before .before .before .before .before .before .before .if1 .left), two, not-false three (c .if3 .left))
+    let two = eq-eqb (x .p .arity) (x .q .arity) (same .if2 .left) in
+    rw (not-false one (same .before .before .before .if1 .left), two, not-false three (c .if3 .left))
 
 pub meets-spec : {M : Type 1} → statement M
 meets-spec = tie.close (tie.spec returns returns-2 returns-3 returns-4)

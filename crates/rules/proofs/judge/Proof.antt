@@ -1,60 +1,68 @@
--- The lists are filled from files that were read, so they are ready for the rules.
+-- The lists are filled from files that were read, so they are what the rules ask (`filled`), and their table is that of the bytes
+-- wherever the rules look (`judged`).
 use Prim.Native.Nat.{ℕ, _<_}
-use mathlib.Core.Path.{_≡_}
-use lib.ListN.{length, getD}
-use denote.Ref.{now}
+use mathlib.Core.Path.{_≡_, _∙_}
+use mathlib.Core.List.{List}
 use native.Mathlib.Omega.{arith}
+use denote.Ref.{now}
+use lib.ListN.{length, getD}
+use Rattle.rules.proofs.Laws.{filled, judged}
 use borrow.Author.Needs.{needs}
 use Rattle.rules.proofs.judge.Statement.{statement}
 use Rattle.rules.proofs.judge.Tie as tie
 
-flow-rows-requires : tie.Need-flow-rows-requires
-flow-rows-requires c κs = search needs
+-- the start, seen from the loads
+abbrev begun : tie.After-all-loads → tie.Start
+begun c = c .before .before .before .before .before .before .before
 
-all-loads-requires : tie.Need-all-loads-requires
-all-loads-requires c κs = search needs
+-- the three lists, seen from the bounds
+module _ (c : tie.After-all-bounds) where
+  abbrev loaded : tie.After-all-loads
+  loaded = c .before .before .before
 
-all-bounds-requires : tie.Need-all-bounds-requires
-all-bounds-requires c κs = search needs
+  abbrev rows : List ℕ
+  rows = loaded .before .before .before .flow-rows .last .0
 
-slice-aggregate-all-rules : tie.Need-slice-aggregate-all-rules
-slice-aggregate-all-rules c = search needs
+  abbrev loads : List ℕ
+  loads = loaded .all-loads .last .0
 
-slice-aggregate-all-rules-2 : tie.Need-slice-aggregate-all-rules-2
-slice-aggregate-all-rules-2 c = search needs
+  abbrev bounds : List ℕ
+  bounds = c .all-bounds .last .0
 
-slice-aggregate-all-rules-3 : tie.Need-slice-aggregate-all-rules-3
-slice-aggregate-all-rules-3 c = search needs
+  manyRows : length rows ≡ 1024
+  manyRows = loaded .before .before .before .flow-rows .kept .0
+
+  manyLoads : length loads ≡ 24576
+  manyLoads = loaded .all-loads .kept .0
+
+  manyBounds : length bounds ≡ 24
+  manyBounds = c .all-bounds .kept .0
+
+  bytes : (i : ℕ) → getD (now (begun loaded .args .table)) i 0 < 256
+  bytes i = omega (arith, loaded .before .before .before .before .before .shared-slice-known2 .given i)
 
 all-rules-requires : tie.Need-all-rules-requires
 all-rules-requires c κs =
-    let x = c .before .before .before .before .before .before .before .before .args in
-    let pre = c .before .before .before .before .before .before .before .before .pre in
-    let known = c .before .before .before .before .before .before .shared-slice-known2 .given in
-    record {
-      array = pre .0;
-      table = pre .1;
-      bytes = λ i. omega (arith, known i);
-      marks = c .before .before .before .before .before .flow-rows .ensures;
-      weighs = c .before .before .before .before .all-loads .ensures;
-      bears = c .before .before .before .all-bounds .ensures;
-      manyRows = search needs;
-      manyLoads = search needs;
-      manyBounds = search needs;
-    }
+    let b = c .before .before .before .before in
+    let s = begun (loaded b) in
+    let x = s .args in
+    filled (now (x .file)) (x .t) (now (x .table)) (x .z) (s .pre .0) (s .pre .1) (bytes b) (rows b) (loads b) (bounds b) (manyRows b) (manyLoads b)
+    (manyBounds b)
+    (loaded b .before .before .before .flow-rows .ensures) (loaded b .all-loads .ensures) (b .all-bounds .ensures)
 
 returns : tie.Need-returns
-returns c = search needs
+returns c =
+    let b = c .before .before .before .before .before in
+    let s = begun (loaded b) in
+    let x = s .args in
+    c .all-rules .ensures
+    ∙ judged (now (x .file)) (x .t) (now (x .table)) (x .z) (s .pre .0) (s .pre .1) (bytes b) (rows b) (loads b) (bounds b) (manyRows b) (manyLoads b)
+    (manyBounds b)
+    (loaded b .before .before .before .flow-rows .ensures) (loaded b .all-loads .ensures) (b .all-bounds .ensures)
 
 pub judge-spec : {M : Type 1} → statement M
 judge-spec =
     tie.close
     (tie.spec
-    flow-rows-requires
-    all-loads-requires
-    all-bounds-requires
-    slice-aggregate-all-rules
-    slice-aggregate-all-rules-2
-    slice-aggregate-all-rules-3
-    all-rules-requires
-    returns)
+    (λ c. search needs) (λ c κs. search needs) (λ c. search needs) (λ c κs. search needs) (λ c. search needs) (λ c κs. search needs)
+    (λ c. search needs) (λ c. search needs) (λ c. search needs) all-rules-requires returns)

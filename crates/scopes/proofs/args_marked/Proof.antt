@@ -31,27 +31,12 @@ loop-holds c =
     let x = c .before .before .args in
     (omega arith, sym (every-zero (argIn (now (x .table)) (x .at) (x .r))))
 
-array-read-wide : tie.Need-array-read-wide Inv-loop μ-loop
-array-read-wide c = search needs
-
-wide-requires : tie.Need-wide-requires Inv-loop μ-loop
-wide-requires c κs = search needs
-
-is-marked-requires : tie.Need-is-marked-requires Inv-loop μ-loop
-is-marked-requires c κs = search needs
-
-add-k : tie.Need-add-k Inv-loop μ-loop
-add-k c = search needs
-
-loop-less : tie.Need-loop-less Inv-loop μ-loop
-loop-less c = search needs
-
 loop-again : tie.Need-loop-again Inv-loop μ-loop
 loop-again c =
     let x = c .before .before .before .before .before .before .before .args in
     let l = c .before .before .before .before .loop in
     let e : c .before .is-marked .result ≡ marked (now (x .table)) (x .at) (getD (x .r .args) (l .k) 0) =
-    c .before .is-marked .ensures ∙ ap (marked (now (x .table)) (x .at)) (c .before .before .wide .ensures .0) in (
+    c .before .is-marked .ensures ∙ ap (marked (now (x .table)) (x .at)) (c .before .before .byte-index .ensures .0) in (
       omega arith,
       ap₂ (λ (b m : Bool). b && (leb (x .r .arity) (l .k) || m)) (l .inv .1) e ∙ sym (every-step (argIn (now (x .table)) (x .at) (x .r)) (l .k)),
     )
@@ -68,13 +53,5 @@ pub args-marked-spec : {M : Type 1} → statement M
 args-marked-spec =
     tie.close
     (tie.spec
-    Inv-loop
-    μ-loop
-    loop-holds
-    array-read-wide
-    wide-requires
-    is-marked-requires
-    add-k
-    loop-less
-    loop-again
-    returns)
+    Inv-loop μ-loop loop-holds (λ c. search needs) (λ c κs. search needs) (λ c κs. search needs) (λ c. search needs) (λ c. search needs)
+    loop-again returns)

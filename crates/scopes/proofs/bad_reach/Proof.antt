@@ -2,7 +2,7 @@
 -- What the table's marks answer for a node is what the definition asks there (`tested`).
 use Prim.Native.Nat.{ℕ, _+_, _*_, _≤_, _-_}
 use native.Mathlib.Omega.{arith}
-use mathlib.Core.Path.{_≡_, sym, ap, _∙_}
+use mathlib.Core.Path.{_≡_, refl, sym, ap, _∙_}
 use mathlib.Core.Bool.{Bool}
 use denote.Ref.{now}
 use lib.ListN.{length}
@@ -33,65 +33,45 @@ abbrev μ-loop : tie.MeasureT-loop
 
 tested :
     (c : tie.After-uses-marked Inv-loop μ-loop)
-    → let l = c .before .before .before .before .before .before in
-    let x = l .before .before .before .args in
+    → let l = c .before .before .before .before .before in
+    let x = l .before .before .before .before .before .args in
     c .uses-marked .result ≡ inScope (arrayOf (now (x .file)) (x .t)) (l .loop .i)
 tested c =
-    let l = c .before .before .before .before .before .before in
-    let x = l .before .before .before .args in
-    let known = l .before .before .shared-slice-known .given in
-    let r = c .before .before .record-at in
+    let l = c .before .before .before .before .before in
+    let x = l .before .before .before .before .before .args in
+    let known = l .before .before .before .before .shared-slice-known .given in
+    let r = c .before .before .node-at in
     c .uses-marked .ensures
-    ∙ uses-reached (now (x .file)) (x .t) (λ k. omega (arith, known k)) (l .before .scopes .result) (l .before .scopes .ensures) (l .loop .i) (r .result)
+    ∙ uses-reached (now (x .file)) (x .t) (λ k. omega (arith, known k)) (l .before .before .fill-scopes .last .0) (l .before .before .fill-scopes .ensures)
+    (l .loop .i) (r .result)
     (omega arith) (r .ensures)
 
-scopes-requires : tie.Need-scopes-requires Inv-loop μ-loop
-scopes-requires c κs = c .before .pre
+fill-scopes-requires : tie.Need-fill-scopes-requires Inv-loop μ-loop
+fill-scopes-requires c κs = let p = c .before .before .pre in ((p .0 .0, p .0 .1, refl), p .1)
 
 loop-holds : tie.Need-loop-holds Inv-loop μ-loop
 loop-holds c = (omega arith, first-zero _)
 
-mul-record-at : tie.Need-mul-record-at Inv-loop μ-loop
-mul-record-at c = search needs
-
-add-record-at : tie.Need-add-record-at Inv-loop μ-loop
-add-record-at c = search needs
-
-record-at-requires : tie.Need-record-at-requires Inv-loop μ-loop
-record-at-requires c κs = search needs
-
-slice-aggregate-uses-marked : tie.Need-slice-aggregate-uses-marked Inv-loop μ-loop
-slice-aggregate-uses-marked c = search needs
-
-mul-uses-marked : tie.Need-mul-uses-marked Inv-loop μ-loop
-mul-uses-marked c = search needs
-
 uses-marked-requires : tie.Need-uses-marked-requires Inv-loop μ-loop
 uses-marked-requires c κs =
-    let l = c .before .before .before .before .before in
-    let t = l .before .before .before .args .t in
-    let known = l .before .before .shared-slice-known .given (t .start + 16 * l .loop .i + 6) in
-    let n : length (l .before .scopes .result) ≡ 4096 = search needs in
-    (omega arith, rw (c .before .record-at .ensures) (omega (arith, known)))
+    let l = c .before .before .before .before in
+    let t = l .before .before .before .before .before .args .t in
+    let known = l .before .before .before .before .shared-slice-known .given (t .start + 16 * l .loop .i + 6) in
+    let n : length (l .before .before .fill-scopes .last .0) ≡ 4096 = l .before .before .fill-scopes .kept .0 in
+    (omega arith, rw (c .before .node-at .ensures) (omega (arith, known)))
 
 returns : tie.Need-returns Inv-loop μ-loop
 unfolding refusal12
 returns c =
-    let l = c .before .before .before .before .before .before .before in
-    let x = l .before .before .before .args in
+    let l = c .before .before .before .before .before .before in
+    let x = l .before .before .before .before .before .args in
     let fails = sym (tested (c .before)) ∙ not-true _ (c .if2 .taken) in
     sym (first-here (check (arrayOf (now (x .file)) (x .t))) (l .loop .i) (x .t .nodes) _ (l .loop .inv .1) (hit-test _ _ fails) (omega arith))
 
-add-i : tie.Need-add-i Inv-loop μ-loop
-add-i c = search needs
-
-loop-less : tie.Need-loop-less Inv-loop μ-loop
-loop-less c = search needs
-
 loop-again : tie.Need-loop-again Inv-loop μ-loop
 loop-again c =
-    let l = c .before .before .before .before .before .before .before in
-    let x = l .before .before .before .args in
+    let l = c .before .before .before .before .before .before in
+    let x = l .before .before .before .before .before .args in
     let passes = sym (tested (c .before)) ∙ not-false _ (c .if2 .left) in
     (omega arith, first-pass (check (arrayOf (now (x .file)) (x .t))) (l .loop .i) (l .loop .inv .1) (clear-test _ _ passes))
 
@@ -99,7 +79,7 @@ returns-2 : tie.Need-returns-2 Inv-loop μ-loop
 unfolding refusal12
 returns-2 c =
     let l = c .before .before in
-    let x = l .before .before .before .args in
+    let x = l .before .before .before .before .before .args in
     let e : l .loop .i ≡ x .t .nodes = omega arith in
     sym (ap (λ (n : ℕ). first n (check (arrayOf (now (x .file)) (x .t)))) (sym e) ∙ l .loop .inv .1)
 
@@ -107,18 +87,5 @@ pub bad-reach-spec : {M : Type 1} → statement M
 bad-reach-spec =
     tie.close
     (tie.spec
-    Inv-loop
-    μ-loop
-    scopes-requires
-    loop-holds
-    mul-record-at
-    add-record-at
-    record-at-requires
-    slice-aggregate-uses-marked
-    mul-uses-marked
-    uses-marked-requires
-    returns
-    add-i
-    loop-less
-    loop-again
-    returns-2)
+    Inv-loop μ-loop (λ c. search needs) fill-scopes-requires loop-holds (λ c κs. search needs) (λ c. search needs) (λ c. search needs)
+    uses-marked-requires returns (λ c. search needs) (λ c. search needs) loop-again returns-2)

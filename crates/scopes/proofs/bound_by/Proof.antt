@@ -5,6 +5,8 @@ use mathlib.Core.Bool.{Bool, _&&_, _||_}
 use mathlib.Core.List.{List}
 use lib.Dec.{eqb}
 use lib.ListN.{replicate}
+use Rattle.records.specs.Record.{nodeOf}
+use Rattle.records.specs.Kinds.{isNewNode}
 use borrow.Author.Needs.{needs}
 use Rattle.marks.specs.Marks.{marked}
 use Rattle.marks.proofs.Laws.{marked-none, marked-more}
@@ -13,35 +15,20 @@ use Rattle.scopes.proofs.Laws.{binds-of}
 use Rattle.scopes.proofs.bound_by.Statement.{statement}
 use Rattle.scopes.proofs.bound_by.Tie as tie
 
-slice-aggregate-mark-if : tie.Need-slice-aggregate-mark-if
-slice-aggregate-mark-if c = search needs
-
-mark-if-requires : tie.Need-mark-if-requires
-mark-if-requires c κs = search needs
-
-slice-aggregate-mark-args : tie.Need-slice-aggregate-mark-args
-slice-aggregate-mark-args c = search needs
-
-mark-args-requires : tie.Need-mark-args-requires
-mark-args-requires c κs = search needs
-
 returns : tie.Need-returns
 returns c v h =
     let start = c .before .before .before .before .before .before .before .before in
     let r = start .args .r in
-    c .before .mark-args .ensures v h
+    (rw (c .before .before .receives .ensures) at (c .before .mark-args .ensures v h))
     ∙ ap (λ (b : Bool). b || isParam r v)
-    (ap (λ (row : List ℕ). marked row 0 v) (c .before .before .before .before .before .mark-if .ensures)
-    ∙ marked-more (replicate 4 0) (eqb (r .kind) 1) (r .name) v refl (start .pre)
-    ∙ ap (λ (b : Bool). b || (eqb (r .kind) 1 && eqb v (r .name))) (marked-none 4 0 v))
+    (ap (λ (row : List ℕ). marked row 0 v)
+    (rw (c .before .before .before .before .before .before .is-new .ensures) at (c .before .before .before .before .before .mark-if .ensures))
+    ∙ marked-more (replicate 4 0) (isNewNode (nodeOf r)) (r .name) v refl (start .pre)
+    ∙ ap (λ (b : Bool). b || (isNewNode (nodeOf r) && eqb v (r .name))) (marked-none 4 0 v))
     ∙ sym (binds-of r v)
 
 pub bound-by-spec : {M : Type 1} → statement M
 bound-by-spec =
     tie.close
     (tie.spec
-    slice-aggregate-mark-if
-    mark-if-requires
-    slice-aggregate-mark-args
-    mark-args-requires
-    returns)
+    (λ c. search needs) (λ c κs. search needs) (λ c κs. search needs) (λ c. search needs) (λ c κs. search needs) (λ c κs. search needs) returns)

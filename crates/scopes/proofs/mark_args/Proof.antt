@@ -23,31 +23,20 @@ Inv-loop row₀ on r args k₀ row k =
 abbrev μ-loop : tie.MeasureT-loop
 μ-loop row₀ on r args k₀ row k = 8 - k
 
+-- stations
+abbrev at-start : tie.After-struct-known Inv-loop μ-loop → tie.Start Inv-loop μ-loop
+at-start c = c .before .before .before .before .before .before
+
 loop-holds : tie.Need-loop-holds Inv-loop μ-loop
 loop-holds c =
     let x = c .before .before .args in
     (omega arith, c .before .before .pre, λ v h. sym (ap (λ (b : Bool). marked (now (x .row)) 0 v || b) (any-zero (argAt (x .r) (x .on) v)) ∙ or-false _))
 
-array-read-wide : tie.Need-array-read-wide Inv-loop μ-loop
-array-read-wide c = search needs
-
-wide-requires : tie.Need-wide-requires Inv-loop μ-loop
-wide-requires c κs = search needs
-
-mark-if-requires : tie.Need-mark-if-requires Inv-loop μ-loop
-mark-if-requires c κs = search needs
-
-add-k : tie.Need-add-k Inv-loop μ-loop
-add-k c = search needs
-
-loop-less : tie.Need-loop-less Inv-loop μ-loop
-loop-less c = search needs
-
 loop-again : tie.Need-loop-again Inv-loop μ-loop
 loop-again c =
-    let x = c .before .before .before .before .before .before .before .before .before .before .args in
+    let x = at-start (c .before .before .before .before) .args in
     let l = c .before .before .before .before .before .before .before .loop in
-    let arg = c .before .before .before .wide in
+    let arg = c .before .before .before .byte-index in
     let e = c .before .before .mark-if .ensures in
     let here = x .on && ltb (l .k) (x .r .arity) in (
       omega arith,
@@ -59,9 +48,6 @@ loop-again c =
           ∙ or-assoc (marked (now (x .row)) 0 v) (any (l .k) (argAt (x .r) (x .on) v)) (argAt (x .r) (x .on) v (l .k))
           ∙ ap (λ (b : Bool). marked (now (x .row)) 0 v || b) (sym (any-step (argAt (x .r) (x .on) v) (l .k))),
     )
-
-same-length : tie.Need-same-length Inv-loop μ-loop
-same-length c = search needs
 
 returns : tie.Need-returns Inv-loop μ-loop
 returns c v h =
@@ -75,14 +61,5 @@ pub mark-args-spec : {M : Type 1} → statement M
 mark-args-spec =
     tie.close
     (tie.spec
-    Inv-loop
-    μ-loop
-    loop-holds
-    array-read-wide
-    wide-requires
-    mark-if-requires
-    add-k
-    loop-less
-    loop-again
-    same-length
-    returns)
+    Inv-loop μ-loop loop-holds (λ c. search needs) (λ c κs. search needs) (λ c κs. search needs) (λ c. search needs) (λ c. search needs)
+    loop-again (λ c. search needs) returns)

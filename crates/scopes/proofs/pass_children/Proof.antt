@@ -1,5 +1,6 @@
 -- `scopes::pass_children` meets its contract: a node has at most two children, and the first pass leaves the parent's own row,
 -- since a child lies above its parent.
+use mathlib.Core.Path.{sym, _∙_}
 use native.Mathlib.Omega.{arith}
 use denote.Ref.{now}
 use borrow.Author.Needs.{needs}
@@ -7,34 +8,39 @@ use Rattle.scopes.proofs.Table.{left-fits, right-fits, handed-down}
 use Rattle.scopes.proofs.pass_children.Statement.{statement}
 use Rattle.scopes.proofs.pass_children.Tie as tie
 
-bound-by-requires : tie.Need-bound-by-requires
-bound-by-requires c κs = search needs
+-- stations
+abbrev at-start : tie.After-table → tie.Start
+at-start c = c .before .before .before .before .before .before
+
+abbrev at-table : tie.After-slice-known3 → tie.After-table
+at-table c = c .before .before .before .before .before .before
 
 pass-if-requires : tie.Need-pass-if-requires
 pass-if-requires c κs =
-    let x = c .before .before .before .before .args in
-    left-fits (now (x .table)) (x .j) (x .r) (c .before .before .before .before .pre .1)
+    rw (c .continues .ensures)
+    (let x = c .before .before .before .before .args in
+    left-fits (now (x .table)) (x .j) (x .r) (c .before .before .before .before .pre .1))
 
 pass-if-requires-2 : tie.Need-pass-if-requires-2
 pass-if-requires-2 c κs e =
-    let start = c .before .before .before .before .before .before .before .before .before .before in
+    let start = at-start (c .before .before .before) in
     let x = start .args in
-    let f = right-fits (now (x .table)) (x .j) (x .r) (start .pre .1) e in
-    let l = c .before .before .before .before .before .pass-if .kept .0 in
+    let f = right-fits (now (x .table)) (x .j) (x .r) (start .pre .1) (sym (c .branches .ensures) ∙ e) in
+    let l = c .before .before .before .before .pass-if .kept .0 in
     (f .0, omega arith)
-
-same-length : tie.Need-same-length
-same-length c = search needs
 
 returns : tie.Need-returns
 returns c =
-    let first = c .before .before .before .before .before .before .before .before in
-    let b = first .before .before .before in
-    let start = b .before .before in
+    let start = at-start (at-table c) in
     let x = start .args in
-    rw (c .before .before .pass-if2 .ensures, first .pass-if .ensures)
-    (handed-down (now (x .table)) (x .j) (x .r) (start .pre .1) (b .bound-by .result) (b .bound-by .ensures))
+    let bound = at-table c .before .before .before .before .bound-by in
+    rw (c .before .before .pass-if2 .ensures, c .before .before .before .branches .ensures)
+    (rw (c .before .before .before .before .before .before .before .pass-if .ensures)
+    (rw (c .before .before .before .before .before .before .before .before .continues .ensures)
+    (handed-down (now (x .table)) (x .j) (x .r) (start .pre .1) (bound .result) (bound .ensures))))
 
 pub pass-children-spec : {M : Type 1} → statement M
 pass-children-spec =
-    tie.close (tie.spec bound-by-requires pass-if-requires pass-if-requires-2 same-length returns)
+    tie.close
+    (tie.spec
+    (λ c κs. search needs) (λ c κs. search needs) pass-if-requires (λ c κs. search needs) pass-if-requires-2 (λ c. search needs) returns)

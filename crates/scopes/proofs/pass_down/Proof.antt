@@ -22,42 +22,6 @@ loop-holds : tie.Need-loop-holds Inv-loop μ-loop
 unfolding passed
 loop-holds c = (omega arith, refl, refl)
 
-mul-table : tie.Need-mul-table Inv-loop μ-loop
-mul-table c = search needs
-
-add-table : tie.Need-add-table Inv-loop μ-loop
-add-table c = search needs
-
-mul-table-2 : tie.Need-mul-table-2 Inv-loop μ-loop
-mul-table-2 c = search needs
-
-slice-read-table : tie.Need-slice-read-table Inv-loop μ-loop
-slice-read-table c = search needs
-
-mul-table-3 : tie.Need-mul-table-3 Inv-loop μ-loop
-mul-table-3 c = search needs
-
-array-read-table : tie.Need-array-read-table Inv-loop μ-loop
-array-read-table c = search needs
-
-mul-table-4 : tie.Need-mul-table-4 Inv-loop μ-loop
-mul-table-4 c = search needs
-
-add-table-2 : tie.Need-add-table-2 Inv-loop μ-loop
-add-table-2 c = search needs
-
-mul-table-5 : tie.Need-mul-table-5 Inv-loop μ-loop
-mul-table-5 c = search needs
-
-slice-write-table : tie.Need-slice-write-table Inv-loop μ-loop
-slice-write-table c = search needs
-
-add-w : tie.Need-add-w Inv-loop μ-loop
-add-w c = search needs
-
-loop-less : tie.Need-loop-less Inv-loop μ-loop
-loop-less c = search needs
-
 loop-again : tie.Need-loop-again Inv-loop μ-loop
 loop-again c =
     let x = c .before .before .before .args in
@@ -67,9 +31,6 @@ loop-again c =
       ap (λ (t : List ℕ). set t (4 * x .to + l .w) (bitOr (getD t (4 * x .from + l .w) 0) (getD (x .t4) (l .w) 0))) (l .inv .2)
           ∙ sym (passed-step (now (x .table)) (x .from) (x .to) (x .t4) (l .w)),
     )
-
-same-length : tie.Need-same-length Inv-loop μ-loop
-same-length c = search needs
 
 returns : tie.Need-returns Inv-loop μ-loop
 returns c =
@@ -81,21 +42,6 @@ pub pass-down-spec : {M : Type 1} → statement M
 pass-down-spec =
     tie.close
     (tie.spec
-    Inv-loop
-    μ-loop
-    loop-holds
-    mul-table
-    add-table
-    mul-table-2
-    slice-read-table
-    mul-table-3
-    array-read-table
-    mul-table-4
-    add-table-2
-    mul-table-5
-    slice-write-table
-    add-w
-    loop-less
-    loop-again
-    same-length
-    returns)
+    Inv-loop μ-loop loop-holds (λ c. search needs) (λ c. search needs) (λ c. search needs) (λ c. search needs) (λ c. search needs)
+    (λ c. search needs) (λ c. search needs) (λ c. search needs) (λ c. search needs) (λ c. search needs) (λ c. search needs) (λ c. search needs)
+    loop-again (λ c. search needs) returns)

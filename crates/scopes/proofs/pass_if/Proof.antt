@@ -7,9 +7,6 @@ use Rattle.scopes.proofs.pass_if.Tie as tie
 pass-down-requires : tie.Need-pass-down-requires
 pass-down-requires c κs = c .before .before .before .pre (c .before .if1 .taken)
 
-same-length : tie.Need-same-length
-same-length c = search needs
-
 returns : tie.Need-returns
 unfolding passIf
 returns c = rw (c .before .before .before .before .if1 .taken) (c .before .before .pass-down .ensures)
@@ -19,4 +16,4 @@ unfolding passIf
 returns-2 c = rw (c .if1 .left)
 
 pub pass-if-spec : {M : Type 1} → statement M
-pass-if-spec = tie.close (tie.spec pass-down-requires same-length returns returns-2)
+pass-if-spec = tie.close (tie.spec pass-down-requires (λ c. search needs) returns returns-2)

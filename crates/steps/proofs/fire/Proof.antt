@@ -1,174 +1,74 @@
--- The records of the two agents are read; with them the pair is ready.
-use Prim.Native.Nat.{ℕ, _+_, _*_}
+-- The records of the two agents are read; with them the pair meets, and its step is the model's (`step-is`).
+use Prim.Native.Nat.{ℕ}
 use native.Mathlib.Omega.{arith}
-use mathlib.Core.Path.{ap, _∙_}
+use mathlib.Core.Path.{_≡_, sym, subst}
 use denote.Ref.{now}
+use lib.ListN.{length, take, replicate}
+use lib.Seq.{length-take-le}
 use borrow.Author.Needs.{needs}
-use Rattle.records.specs.Record.{recordAt}
-use Rattle.steps.proofs.Laws.{fit, thread-reads}
-use Rattle.steps.proofs.Advanced.{place}
+use Rattle.steps.specs.declared.Meeting.{Meeting}
+use Rattle.steps.specs.Steps.{Meets, Makes}
+use Rattle.steps.proofs.Laws as L
 use Rattle.steps.proofs.fire.Statement.{statement}
 use Rattle.steps.proofs.fire.Tie as tie
 
-add-width : tie.Need-add-width
-add-width c = search needs
+-- the start, seen from the records
+abbrev begun : tie.After-meeting-at → tie.Start
+begun c = c .before .before .before .before .before .before .before
 
-mul-wide : tie.Need-mul-wide
-mul-wide c =
-    let x = c .before .before .before .before .before .before .args in
-    let p = c .before .before .before .before .before .before .pre in
-    let read = p .0 .0 in
-    let formed = p .1 .0 .0 in
-    let l = now (x .threads) in
-    let fits = fit (now (x .file)) (x .t) read l (x .count) (now (x .markers)) (x .listed) formed in
-    let a = place (x .t .names) (x .r) (x .count) l (p .1 .0 .1) (fits .0) (read .formed .fewNames) (fits .1) in
-    omega (arith, a .1)
+-- the room is as long as an environment
+room : (u : tie.Start) → length {A = ℕ} (take (u .args .t .names) (replicate 256 0)) ≡ u .args .t .names
+room u = length-take-le (u .args .t .names) (replicate 256 0) (u .pre .0 .read .formed .fewNames)
 
-mul-wide-2 : tie.Need-mul-wide-2
-mul-wide-2 c =
-    let x = c .before .before .before .before .before .before .args in
-    let p = c .before .before .before .before .before .before .pre in
-    let read = p .0 .0 in
-    let formed = p .1 .0 .0 in
-    let l = now (x .threads) in
-    let fits = fit (now (x .file)) (x .t) read l (x .count) (now (x .markers)) (x .listed) formed in
-    let a = place (x .t .names) (x .r) (x .count) l (p .1 .0 .1) (fits .0) (read .formed .fewNames) (fits .1) in
-    omega (arith, a .1)
+meets : (c : tie.After-meeting-at) → let x = begun c .args in Meets (now (x .file)) (x .t) (now (x .threads)) (x .counts) (c .meeting-at .result)
+meets c =
+    let u = begun c in
+    let x = u .args in
+    let p = u .pre .1 .0 in
+    subst (Meets (now (x .file)) (x .t) (now (x .threads)) (x .counts)) (sym (c .meeting-at .ensures))
+    (L.meets (now (x .threads)) (now (x .markers)) (x .counts) (u .pre .0 .read) (p .0) (x .r) (x .s) (p .1) (p .2) (u .pre .1 .1) (now (x .choices)))
 
-slice-read-wide : tie.Need-slice-read-wide
-slice-read-wide c =
-    let x = c .before .before .before .before .before .before .before .args in
-    let p = c .before .before .before .before .before .before .before .pre in
-    let read = p .0 .0 in
-    let formed = p .1 .0 .0 in
-    let l = now (x .threads) in
-    let fits = fit (now (x .file)) (x .t) read l (x .count) (now (x .markers)) (x .listed) formed in
-    let a = place (x .t .names) (x .r) (x .count) l (p .1 .0 .1) (fits .0) (read .formed .fewNames) (fits .1) in
-    omega (arith, a .0)
+meeting-at-requires : tie.Need-meeting-at-requires
+meeting-at-requires c κs =
+    let u = c .before .before .before .before .before .before in
+    let x = u .args in
+    let p = u .pre .1 .0 in
+    let lies = L.lies (now (x .threads)) (now (x .markers)) (x .counts) (u .pre .0 .read) (p .0) in
+    (omega (arith, u .pre .0 .read .fills), lies (x .r) (p .1), lies (x .s) (p .2))
 
-wide-requires : tie.Need-wide-requires
-wide-requires c κs = search needs
+slice-aggregate-fire-meeting : tie.Need-slice-aggregate-fire-meeting
+slice-aggregate-fire-meeting c = sym (room (begun (c .before .before .before)))
 
-mul-wide-3 : tie.Need-mul-wide-3
-mul-wide-3 c =
-    let x = c .before .before .before .before .before .before .before .before .args in
-    let p = c .before .before .before .before .before .before .before .before .pre in
-    let read = p .0 .0 in
-    let formed = p .1 .0 .0 in
-    let l = now (x .threads) in
-    let fits = fit (now (x .file)) (x .t) read l (x .count) (now (x .markers)) (x .listed) formed in
-    let a = place (x .t .names) (x .s) (x .count) l (p .1 .0 .2) (fits .0) (read .formed .fewNames) (fits .1) in
-    omega (arith, a .1)
+slice-aggregate-fire-meeting-2 : tie.Need-slice-aggregate-fire-meeting-2
+slice-aggregate-fire-meeting-2 c = sym (room (begun (c .before .before .before .before)))
 
-mul-wide-4 : tie.Need-mul-wide-4
-mul-wide-4 c =
-    let x = c .before .before .before .before .before .before .before .before .args in
-    let p = c .before .before .before .before .before .before .before .before .pre in
-    let read = p .0 .0 in
-    let formed = p .1 .0 .0 in
-    let l = now (x .threads) in
-    let fits = fit (now (x .file)) (x .t) read l (x .count) (now (x .markers)) (x .listed) formed in
-    let a = place (x .t .names) (x .s) (x .count) l (p .1 .0 .2) (fits .0) (read .formed .fewNames) (fits .1) in
-    omega (arith, a .1)
-
-slice-read-wide-2 : tie.Need-slice-read-wide-2
-slice-read-wide-2 c =
-    let x = c .before .before .before .before .before .before .before .before .before .args in
-    let p = c .before .before .before .before .before .before .before .before .before .pre in
-    let read = p .0 .0 in
-    let formed = p .1 .0 .0 in
-    let l = now (x .threads) in
-    let fits = fit (now (x .file)) (x .t) read l (x .count) (now (x .markers)) (x .listed) formed in
-    let a = place (x .t .names) (x .s) (x .count) l (p .1 .0 .2) (fits .0) (read .formed .fewNames) (fits .1) in
-    omega (arith, a .0)
-
-wide-requires-2 : tie.Need-wide-requires-2
-wide-requires-2 c κs = search needs
-
-mul-record-at : tie.Need-mul-record-at
-mul-record-at c = search needs
-
-add-record-at : tie.Need-add-record-at
-add-record-at c = search needs
-
-record-at-requires : tie.Need-record-at-requires
-record-at-requires c κs =
-    let x = c .before .before .before .before .before .before .before .before .before .before .before .args in
-    let p = c .before .before .before .before .before .before .before .before .before .before .before .pre in
-    let read = p .0 .0 in
-    let formed = p .1 .0 .0 in
-    let l = now (x .threads) in
-    let fits = fit (now (x .file)) (x .t) read l (x .count) (now (x .markers)) (x .listed) formed in
-    let b = thread-reads (now (x .file)) (x .t) read l (x .count) (now (x .markers)) (x .listed) formed (x .r) (p .1 .0 .1) .below in
-    omega (arith, b, read .fills, c .before .before .before .wide .ensures .0)
-
-mul-record-at-2 : tie.Need-mul-record-at-2
-mul-record-at-2 c = search needs
-
-add-record-at-2 : tie.Need-add-record-at-2
-add-record-at-2 c = search needs
-
-record-at-requires-2 : tie.Need-record-at-requires-2
-record-at-requires-2 c κs =
-    let x = c .before .before .before .before .before .before .before .before .before .before .before .before .before .args in
-    let p = c .before .before .before .before .before .before .before .before .before .before .before .before .before .pre in
-    let read = p .0 .0 in
-    let formed = p .1 .0 .0 in
-    let l = now (x .threads) in
-    let fits = fit (now (x .file)) (x .t) read l (x .count) (now (x .markers)) (x .listed) formed in
-    let b = thread-reads (now (x .file)) (x .t) read l (x .count) (now (x .markers)) (x .listed) formed (x .s) (p .1 .0 .2) .below in
-    omega (arith, b, read .fills, c .before .before .before .wide2 .ensures .0)
-
-fire-pair-requires : tie.Need-fire-pair-requires
-fire-pair-requires c κs =
-    let x = c .before .before .before .before .before .before .before .before .before .before .before .before .before .before .before .before .args in
-    let p = c .before .before .before .before .before .before .before .before .before .before .before .before .before .before .before .before .pre in
-    let read = p .0 .0 in
-    let formed = p .1 .0 .0 in
-    let l = now (x .threads) in
-    let fits = fit (now (x .file)) (x .t) read l (x .count) (now (x .markers)) (x .listed) formed in
-    let f = now (x .file) in
-    let at : ℕ → _ = λ i. recordAt f (x .t .start + 16 * i) in (
-      p .0,
-      record {
-        formed = formed;
-        receiver = p .1 .0 .1;
-        sender = p .1 .0 .2;
-        meets = p .1 .1;
-        p-is = c .before .before .before .before .record-at .ensures ∙ ap at (c .before .before .before .before .before .before .before .before .wide .ensures .0);
-        q-is = c .before .before .record-at2 .ensures ∙ ap at (c .before .before .before .before .before .before .wide2 .ensures .0);
-      },
-    )
-
-same-length : tie.Need-same-length
-same-length c = search needs
-
-same-length-2 : tie.Need-same-length-2
-same-length-2 c = search needs
+fire-meeting-requires : tie.Need-fire-meeting-requires
+fire-meeting-requires c κs =
+    let at = c .before .before .before .before in
+    let u = begun at in
+    let x = u .args in
+    let fits = L.markers-fit (now (x .threads)) (now (x .markers)) (x .counts) (u .pre .0 .read) (u .pre .1 .0 .0) in
+    ((u .pre .0, meets at), (fits, room u, room u))
 
 returns : tie.Need-returns
-returns c = search needs
+returns c =
+    let fired = c .before .before .before .before .before .before in
+    let at = fired .before .before .before .before .before in
+    let u = begun at in
+    let x = u .args in
+    let p = u .pre .1 .0 in
+    let l = now (x .threads) in
+    let ml = now (x .markers) in
+    let ch = now (x .choices) in
+    let e = fired .fire-meeting .result in
+    let l′ = fired .fire-meeting .last .1 .1 .1 .1 .0 in
+    let ml′ = fired .fire-meeting .last .1 .1 .1 .1 .1 .0 in
+    let made = subst (λ (m : Meeting). Makes (now (x .file)) (x .t) ch l ml (x .counts) m e l′ ml′) (at .meeting-at .ensures) (fired .fire-meeting .ensures) in
+    L.fires l ml (x .counts) (u .pre .0 .read) (p .0) (x .r) (x .s) (p .1) (p .2) (u .pre .1 .1) ch e l′ ml′ made
 
 pub fire-spec : {M : Type 1} → statement M
 fire-spec =
     tie.close
     (tie.spec
-    add-width
-    mul-wide
-    mul-wide-2
-    slice-read-wide
-    wide-requires
-    mul-wide-3
-    mul-wide-4
-    slice-read-wide-2
-    wide-requires-2
-    mul-record-at
-    add-record-at
-    record-at-requires
-    mul-record-at-2
-    add-record-at-2
-    record-at-requires-2
-    fire-pair-requires
-    same-length
-    same-length-2
-    returns)
+    meeting-at-requires (λ c. search needs) slice-aggregate-fire-meeting (λ c. search needs) slice-aggregate-fire-meeting-2 fire-meeting-requires
+    (λ c. search needs) (λ c. search needs) returns)

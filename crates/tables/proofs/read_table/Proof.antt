@@ -1,90 +1,72 @@
 -- By the array's answer, then by the table's.
+use Prim.Native.Nat.{ℕ}
 use mathlib.Core.Path.{_≡_, refl, sym, ap, _∙_}
+use mathlib.Core.List.{List}
 use denote.Ref.{now}
-use borrow.Author.Tests.{eq-eqb, ne-eqb, not-true, not-false}
-use Rattle.records.proofs.Checks.{refuses, goes-on, passes, fails, holds}
-use Rattle.arrays.specs.File.{readArray}
-use Rattle.arrays.specs.declared.ArrayAnswer.the-variants as A
-use Rattle.arrays.proofs.Laws.{read-is}
-use Rattle.records.specs.Record.{foundOf}
-use Rattle.layout.specs.Table.{sizesOf, lengthFits}
 use Rattle.laws.proofs.Search.{test-clear, andThen-split}
-use Rattle.tables.specs.Read.{answer}
+use Rattle.records.specs.declared.Trailer.{Trailer}
+use Rattle.records.specs.Record.{foundOf}
+use Rattle.records.proofs.Checks.{passes}
+use Rattle.arrays.specs.declared.ArrayAnswer.the-variants as A
+use Rattle.arrays.specs.File.{readArray}
+use Rattle.arrays.proofs.Laws.{read-is}
+use Rattle.layout.specs.declared.Sizes.{Sizes}
+use Rattle.layout.specs.Table.{sizesOf, lengthFits}
+use Rattle.tables.specs.Read.{answer, readTable}
 use Rattle.tables.proofs.Laws.{length-fits, array-refused, array-read}
-use native.Mathlib.Omega.{arith}
 use borrow.Author.Needs.{needs}
+use native.Mathlib.Omega.{arith}
 use Rattle.tables.proofs.read_table.Statement.{statement}
 use Rattle.tables.proofs.read_table.Tie as tie
 
-read-array-requires : tie.Need-read-array-requires
-read-array-requires c κs = search needs
+-- an array that was read, before its table is checked
+module _ (c : tie.After-known-told2) where
+  abbrev array : List ℕ
+  array = now (c .before .before .before .before .before .before .args .array)
 
-enum-known-r : tie.Need-enum-known-r
-enum-known-r c = search needs
+  abbrev table : List ℕ
+  table = now (c .before .before .before .before .before .before .args .table)
 
-enum-known-t : tie.Need-enum-known-t
-enum-known-t c = search needs
+  abbrev trailer : Trailer
+  trailer = c .before .t .given .0 .0
+
+  read : readArray array ≡ A.Read trailer
+  read = sym (c .before .before .before .read-array .ensures) ∙ c .before .t .given .1
+
+-- the answer, once the table is checked
+checked : (c : tie.After-check-table) (z : Sizes) → z ≡ sizesOf (trailer (c .before)) (table (c .before))
+    → answer (foundOf (c .check-table .result)) z ≡ readTable (array (c .before)) (table (c .before))
+checked c z e = array-read (array (c .before)) (table (c .before)) (trailer (c .before)) _ z (read (c .before)) (c .check-table .ensures) e
 
 check-table-requires : tie.Need-check-table-requires
 check-table-requires c κs =
-    let f = now (c .before .before .before .before .before .before .args .array) in
-    let s = now (c .before .before .before .before .before .before .args .table) in
-    let t = c .before .t .given .0 .0 in
-    let e : readArray f ≡ A.Read t = sym (c .before .before .before .read-array .ensures) ∙ c .before .t .given .1 in
-    let r = read-is f t e in
-    (omega (arith, r .fills), r .start, r .formed .fewNodes, r .formed .fewNames)
-
-enum-known-r-2 : tie.Need-enum-known-r-2
-enum-known-r-2 c = search needs
-
-enum-told : tie.Need-enum-told
-enum-told c = search needs
+    let r = read-is (array c) (trailer c) (read c) in
+    (omega (arith, r .fills), r .formed .fewNodes, r .formed .fewNames)
 
 read-sizes-requires : tie.Need-read-sizes-requires
 read-sizes-requires c κs =
-    let f = now (c .before .before .before .before .before .before .before .before .before .args .array) in
-    let s = now (c .before .before .before .before .before .before .before .before .before .args .table) in
-    length-fits s (test-clear (lengthFits s) _
-    (andThen-split _ _ (passes (c .before .before .check-table .result) (c .before .before .check-table .ensures) (c .enum-told .given .1)) .0))
+    let d = c .before .before in
+    let s = table (d .before) in
+    length-fits s (test-clear (lengthFits s) _ (andThen-split _ _ (passes (d .check-table .result) (d .check-table .ensures) (c .enum-told .given .1)) .0))
 
 returns : tie.Need-returns
 returns c =
-    let f = now (c .before .before .before .before .before .before .args .array) in
-    let s = now (c .before .before .before .before .before .before .args .table) in
-    array-refused f s (c .before .r .given .0 .0) (sym (c .before .before .before .read-array .ensures) ∙ c .before .r .given .1)
+    let x = c .before .before .before .before .before .before .args in
+    array-refused (now (x .array)) (now (x .table)) (c .before .r .given .0 .0) (sym (c .before .before .before .read-array .ensures) ∙ c .before .r .given .1)
 
 returns-2 : tie.Need-returns-2
 returns-2 c =
-    let f = now (c .before .before .before .before .before .before .before .before .before .before .args .array) in
-    let s = now (c .before .before .before .before .before .before .before .before .before .before .args .table) in
-    let t = c .before .before .before .before .before .t .given .0 .0 in
-    ap (λ x. answer (foundOf x) (sizesOf t s)) (sym (c .before .r2 .given .1))
-    ∙ array-read f s t (foundOf (c .before .before .before .check-table .result)) (sizesOf t s)
-    (sym (c .before .before .before .before .before .before .before .read-array .ensures) ∙ c .before .before .before .before .before .t .given .1)
-    (c .before .before .before .check-table .ensures) refl
+    let d = c .before .before .before in
+    ap (λ x. answer (foundOf x) (sizesOf (trailer (d .before)) (table (d .before)))) (sym (c .before .r2 .given .1)) ∙ checked d _ refl
 
 returns-3 : tie.Need-returns-3
 returns-3 c =
-    let f = now (c .before .before .before .before .before .before .before .before .before .before .args .array) in
-    let s = now (c .before .before .before .before .before .before .before .before .before .before .args .table) in
-    let t = c .before .before .before .before .before .t .given .0 .0 in
-    let z = c .read-sizes .result in
-    ap (λ x. answer (foundOf x) z) (sym (c .before .enum-told .given .1))
-    ∙ array-read f s t (foundOf (c .before .before .before .check-table .result)) z
-    (sym (c .before .before .before .before .before .before .before .read-array .ensures) ∙ c .before .before .before .before .before .t .given .1)
-    (c .before .before .before .check-table .ensures) (c .read-sizes .ensures)
+    let z = c .read-sizes in
+    ap (λ x. answer (foundOf x) (z .result)) (sym (c .before .enum-told .given .1)) ∙ checked (c .before .before .before) (z .result) (z .ensures)
 
 pub read-table-spec : {M : Type 1} → statement M
 read-table-spec =
     tie.close
     (tie.spec
-    read-array-requires
-    enum-known-r
-    enum-known-t
-    check-table-requires
-    enum-known-r-2
-    enum-told
-    read-sizes-requires
-    returns
-    returns-2
-    returns-3)
+    (λ c κs. search needs) (λ c. search needs) (λ c. search needs) check-table-requires (λ c. search needs) (λ c. search needs)
+    read-sizes-requires returns returns-2 returns-3)

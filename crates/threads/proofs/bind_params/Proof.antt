@@ -19,23 +19,15 @@ Inv-loop sent env₀ params args k₀ env k =
 abbrev μ-loop : tie.MeasureT-loop
 μ-loop sent env₀ params args k₀ env k = k
 
+-- the start, seen from the loop
+abbrev begun : tie.At-loop Inv-loop μ-loop → tie.Start Inv-loop μ-loop
+begun c = c .before .before .before .before .before
+
 loop-holds : tie.Need-loop-holds Inv-loop μ-loop
 loop-holds c =
     let x = c .before .before .before .before .args in
     let eight : length (x .p .args) ≡ 8 = search needs in
     (omega arith, sym (bound-none (x .p .arity) (x .p .args) (x .q .args) (now (x .sent)) (now (x .env)) (omega arith)), refl)
-
-sub-k : tie.Need-sub-k Inv-loop μ-loop
-sub-k c = search needs
-
-array-read-wide : tie.Need-array-read-wide Inv-loop μ-loop
-array-read-wide c = search needs
-
-wide-requires : tie.Need-wide-requires Inv-loop μ-loop
-wide-requires c κs = search needs
-
-mul-env : tie.Need-mul-env Inv-loop μ-loop
-mul-env c = search needs
 
 shared-slice-read-env : tie.Need-shared-slice-read-env Inv-loop μ-loop
 shared-slice-read-env c =
@@ -46,46 +38,31 @@ shared-slice-read-env c =
     let h = All-front (λ y. y < length (now (x .sent))) (x .q .arity) (x .q .args) (l .k - 1) 0 (pre .1 .1) (omega arith) (omega arith) in
     omega arith
 
-array-read-wide-2 : tie.Need-array-read-wide-2 Inv-loop μ-loop
-array-read-wide-2 c = search needs
-
-wide-requires-2 : tie.Need-wide-requires-2 Inv-loop μ-loop
-wide-requires-2 c κs = search needs
-
-mul-env-2 : tie.Need-mul-env-2 Inv-loop μ-loop
-mul-env-2 c = search needs
-
 slice-write-env : tie.Need-slice-write-env Inv-loop μ-loop
 slice-write-env c =
-    let x = c .before .before .before .before .before .before .before .before .before .args in
+    let x = begun (c .before .before .before .before) .args in
     let l = c .before .before .before .before .loop in
-    let pre = c .before .before .before .before .before .before .before .before .before .pre in
+    let pre = begun (c .before .before .before .before) .pre in
     let eight : length (x .p .args) ≡ 8 = search needs in
     let h = All-front (λ y. y < length (now (x .env))) (x .p .arity) (x .p .args) (l .k - 1) 0 (pre .1 .0) (omega arith) (omega arith) in
     omega arith
 
-loop-less : tie.Need-loop-less Inv-loop μ-loop
-loop-less c = search needs
-
 loop-again : tie.Need-loop-again Inv-loop μ-loop
 loop-again c =
-    let x = c .before .before .before .before .before .before .before .before .before .args in
+    let x = begun (c .before .before .before .before) .args in
     let l = c .before .before .before .before .loop in
-    let pre = c .before .before .before .before .before .before .before .before .before .pre in
+    let pre = begun (c .before .before .before .before) .pre in
     let n = x .p .arity in
     let eight-p : length (x .p .args) ≡ 8 = search needs in
     let eight-q : length (x .q .args) ≡ 8 = search needs in
     let k : suc (l .k - 1) ≡ l .k = omega arith in
     let bound : l .env ≡ boundFrom (suc (l .k - 1)) n (x .p .args) (x .q .args) (now (x .sent)) (now (x .env)) = rw k (l .inv .1) in (
       omega arith,
-      ap₂ (λ (y z : ℕ). set (l .env) y (getD (now (x .sent)) z 0)) (c .wide2 .ensures .0) (c .before .before .wide .ensures .0)
+      ap₂ (λ (y z : ℕ). set (l .env) y (getD (now (x .sent)) z 0)) (c .byte-index2 .ensures .0) (c .before .before .byte-index .ensures .0)
           ∙ ap (λ (e : List ℕ). set e (getD (x .p .args) (l .k - 1) 0) (getD (now (x .sent)) (getD (x .q .args) (l .k - 1) 0) 0)) bound
           ∙ sym (bound-turn (l .k - 1) n (x .p .args) (x .q .args) (now (x .sent)) (now (x .env)) (omega arith) (omega arith) (omega arith)),
       simp length-set (l .inv .2),
     )
-
-same-length : tie.Need-same-length Inv-loop μ-loop
-same-length c = search needs
 
 returns : tie.Need-returns Inv-loop μ-loop
 returns c =
@@ -101,19 +78,5 @@ pub bind-params-spec : {M : Type 1} → statement M
 bind-params-spec =
     tie.close
     (tie.spec
-    Inv-loop
-    μ-loop
-    loop-holds
-    sub-k
-    array-read-wide
-    wide-requires
-    mul-env
-    shared-slice-read-env
-    array-read-wide-2
-    wide-requires-2
-    mul-env-2
-    slice-write-env
-    loop-less
-    loop-again
-    same-length
-    returns)
+    Inv-loop μ-loop loop-holds (λ c. search needs) (λ c. search needs) (λ c κs. search needs) (λ c. search needs) shared-slice-read-env
+    (λ c. search needs) (λ c κs. search needs) (λ c. search needs) slice-write-env (λ c. search needs) loop-again (λ c. search needs) returns)

@@ -21,27 +21,6 @@ abbrev μ-loop : tie.MeasureT-loop
 loop-holds : tie.Need-loop-holds Inv-loop μ-loop
 loop-holds c = (omega arith, sym (put-nil _ _), refl)
 
-add-env : tie.Need-add-env Inv-loop μ-loop
-add-env c = search needs
-
-mul-env : tie.Need-mul-env Inv-loop μ-loop
-mul-env c = search needs
-
-shared-slice-read-env : tie.Need-shared-slice-read-env Inv-loop μ-loop
-shared-slice-read-env c = search needs
-
-mul-env-2 : tie.Need-mul-env-2 Inv-loop μ-loop
-mul-env-2 c = search needs
-
-slice-write-env : tie.Need-slice-write-env Inv-loop μ-loop
-slice-write-env c = search needs
-
-add-j : tie.Need-add-j Inv-loop μ-loop
-add-j c = search needs
-
-loop-less : tie.Need-loop-less Inv-loop μ-loop
-loop-less c = search needs
-
 loop-again : tie.Need-loop-again Inv-loop μ-loop
 loop-again c =
     let x = c .before .before .before .args in
@@ -50,9 +29,6 @@ loop-again c =
       rw (l .inv .1) (copied (now (x .threads)) (now (x .env)) (x .from) (l .j) (c .before .before .before .pre) (omega arith)),
       simp length-set (l .inv .2),
     )
-
-same-length : tie.Need-same-length Inv-loop μ-loop
-same-length c = search needs
 
 returns : tie.Need-returns Inv-loop μ-loop
 returns c =
@@ -64,16 +40,5 @@ pub copy-words-spec : {M : Type 1} → statement M
 copy-words-spec =
     tie.close
     (tie.spec
-    Inv-loop
-    μ-loop
-    loop-holds
-    add-env
-    mul-env
-    shared-slice-read-env
-    mul-env-2
-    slice-write-env
-    add-j
-    loop-less
-    loop-again
-    same-length
-    returns)
+    Inv-loop μ-loop loop-holds (λ c. search needs) (λ c. search needs) (λ c. search needs) (λ c. search needs) (λ c. search needs)
+    (λ c. search needs) (λ c. search needs) loop-again (λ c. search needs) returns)

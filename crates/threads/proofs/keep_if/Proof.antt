@@ -17,9 +17,6 @@ returns c =
     let x = c .before .before .args in
     rw (not-true (x .stays) (c .if1 .taken)) (sym (put-nil (x .to) (now (x .threads))), sym (add-zero (x .to)))
 
-add-result : tie.Need-add-result
-add-result c = search needs
-
 returns-2 : tie.Need-returns-2
 returns-2 c =
     let x = c .before .before .before .args in
@@ -30,12 +27,6 @@ returns-2 c =
       sym (ap (λ (k : ℕ). put k (take (x .width) (drop (x .from) l)) l) e ∙ put-same (x .from) (x .width) l room),
       ap (λ (k : ℕ). x .to + k) (sym (part-length l (x .from) (x .width) room)),
     )
-
-move-down-requires : tie.Need-move-down-requires
-move-down-requires c κs = search needs
-
-add-result-2 : tie.Need-add-result-2
-add-result-2 c = search needs
 
 same-length : tie.Need-same-length
 same-length c =
@@ -53,4 +44,5 @@ returns-3 c =
 pub keep-if-spec : {M : Type 1} → statement M
 keep-if-spec =
     tie.close
-    (tie.spec returns add-result returns-2 move-down-requires add-result-2 same-length returns-3)
+    (tie.spec
+    returns (λ c. search needs) returns-2 (λ c κs. search needs) (λ c. search needs) same-length returns-3)

@@ -24,9 +24,6 @@ Inv-loop threads₀ names count r s resource width from₀ to₀ i₀ threads fr
 abbrev μ-loop : tie.MeasureT-loop
 μ-loop threads₀ names count r s resource width from₀ to₀ i₀ threads from to i = count - i
 
-add-width : tie.Need-add-width Inv-loop μ-loop
-add-width c = search needs
-
 loop-holds : tie.Need-loop-holds Inv-loop μ-loop
 loop-holds c =
     let x = c .before .args in
@@ -51,12 +48,6 @@ add-from c =
     let z = slot (x .names) (c .before .before .before .before .before .loop .i) (x .count) (c .before .before .before .before .loop-test .taken) in
     search needs
 
-add-i : tie.Need-add-i Inv-loop μ-loop
-add-i c = search needs
-
-loop-less : tie.Need-loop-less Inv-loop μ-loop
-loop-less c = search needs
-
 loop-again : tie.Need-loop-again Inv-loop μ-loop
 unfolding remains
 loop-again c =
@@ -79,9 +70,6 @@ loop-again c =
     let new = k .0 ∙ turn .0 in
     (omega arith, omega arith, less, used, new, ap length new ∙ length-put 0 (kept (x .names) (x .count) old f (l .i + 1)) old (omega arith))
 
-same-length : tie.Need-same-length Inv-loop μ-loop
-same-length c = search needs
-
 returns : tie.Need-returns Inv-loop μ-loop
 returns c =
     let x = c .before .before .before .args in
@@ -89,20 +77,11 @@ returns c =
     let done : l .i ≡ x .count = omega arith in
     let f = remains (x .resource) (x .r) (x .s) in
     let all = ap (λ (i : ℕ). kept (x .names) (x .count) (now (x .threads)) f i) done ∙ kept-all (x .names) (x .count) (now (x .threads)) f in
-    (l .inv .4 ∙ ap (λ (t : List ℕ). put 0 t (now (x .threads))) all, l .inv .3 ∙ ap length all)
+    l .inv .4 ∙ ap (λ (t : List ℕ). put 0 t (now (x .threads))) all
 
 pub keep-threads-spec : {M : Type 1} → statement M
 keep-threads-spec =
     tie.close
     (tie.spec
-    Inv-loop
-    μ-loop
-    add-width
-    loop-holds
-    keep-if-requires
-    add-from
-    add-i
-    loop-less
-    loop-again
-    same-length
-    returns)
+    Inv-loop μ-loop (λ c. search needs) loop-holds keep-if-requires add-from (λ c. search needs) (λ c. search needs) loop-again
+    (λ c. search needs) returns)

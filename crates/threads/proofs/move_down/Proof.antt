@@ -21,30 +21,6 @@ abbrev μ-loop : tie.MeasureT-loop
 loop-holds : tie.Need-loop-holds Inv-loop μ-loop
 loop-holds c = (omega arith, sym (put-nil _ _), refl)
 
-add-threads : tie.Need-add-threads Inv-loop μ-loop
-add-threads c = search needs
-
-mul-threads : tie.Need-mul-threads Inv-loop μ-loop
-mul-threads c = search needs
-
-slice-read-threads : tie.Need-slice-read-threads Inv-loop μ-loop
-slice-read-threads c = search needs
-
-add-threads-2 : tie.Need-add-threads-2 Inv-loop μ-loop
-add-threads-2 c = search needs
-
-mul-threads-2 : tie.Need-mul-threads-2 Inv-loop μ-loop
-mul-threads-2 c = search needs
-
-slice-write-threads : tie.Need-slice-write-threads Inv-loop μ-loop
-slice-write-threads c = search needs
-
-add-j : tie.Need-add-j Inv-loop μ-loop
-add-j c = search needs
-
-loop-less : tie.Need-loop-less Inv-loop μ-loop
-loop-less c = search needs
-
 loop-again : tie.Need-loop-again Inv-loop μ-loop
 loop-again c =
     let x = c .before .before .before .args in
@@ -53,9 +29,6 @@ loop-again c =
       rw (l .inv .1) (moved (now (x .threads)) (x .from) (x .to) (l .j) (c .before .before .before .pre .0) (omega arith)),
       simp length-set (l .inv .2),
     )
-
-same-length : tie.Need-same-length Inv-loop μ-loop
-same-length c = search needs
 
 returns : tie.Need-returns Inv-loop μ-loop
 returns c =
@@ -67,17 +40,5 @@ pub move-down-spec : {M : Type 1} → statement M
 move-down-spec =
     tie.close
     (tie.spec
-    Inv-loop
-    μ-loop
-    loop-holds
-    add-threads
-    mul-threads
-    slice-read-threads
-    add-threads-2
-    mul-threads-2
-    slice-write-threads
-    add-j
-    loop-less
-    loop-again
-    same-length
-    returns)
+    Inv-loop μ-loop loop-holds (λ c. search needs) (λ c. search needs) (λ c. search needs) (λ c. search needs) (λ c. search needs)
+    (λ c. search needs) (λ c. search needs) (λ c. search needs) loop-again (λ c. search needs) returns)

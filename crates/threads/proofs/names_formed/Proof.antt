@@ -17,40 +17,26 @@ use Rattle.threads.proofs.names_formed.Tie as tie
 
 -- name v's word is well formed
 abbrev wordsTest : List ℕ → List ℕ → ℕ → ℕ → List ℕ → ℕ → ℕ → Bool
-wordsTest table news marks i threads at v = wordOk (marked news 0) marks (marked table (4 * i) v) (getD threads (at + v) 0)
+wordsTest frees news marks i threads at v = wordOk (marked news 0) marks (marked frees (4 * i) v) (getD threads (at + v) 0)
 
 abbrev Inv-loop : tie.InvT-loop
-Inv-loop table news names marks i threads at v₀ v = (v ≤ names) × (every v (wordsTest table news marks i threads at) ≡ true)
+Inv-loop frees news names marks i threads at v₀ v = (v ≤ names) × (every v (wordsTest frees news marks i threads at) ≡ true)
 
 abbrev μ-loop : tie.MeasureT-loop
-μ-loop table news names marks i threads at v₀ v = names - v
+μ-loop frees news names marks i threads at v₀ v = names - v
+
+-- the start, seen from the loop
+abbrev begun : tie.At-loop Inv-loop μ-loop → tie.Start Inv-loop μ-loop
+begun c = c .before .before .before .before
 
 loop-holds : tie.Need-loop-holds Inv-loop μ-loop
 loop-holds c = (omega arith, every-zero _)
 
-mul-is-marked : tie.Need-mul-is-marked Inv-loop μ-loop
-mul-is-marked c = search needs
-
-is-marked-requires : tie.Need-is-marked-requires Inv-loop μ-loop
-is-marked-requires c κs = search needs
-
-add-word-formed : tie.Need-add-word-formed Inv-loop μ-loop
-add-word-formed c = search needs
-
-mul-word-formed : tie.Need-mul-word-formed Inv-loop μ-loop
-mul-word-formed c = search needs
-
-shared-slice-read-word-formed : tie.Need-shared-slice-read-word-formed Inv-loop μ-loop
-shared-slice-read-word-formed c = search needs
-
-word-formed-requires : tie.Need-word-formed-requires Inv-loop μ-loop
-word-formed-requires c κs = search needs
-
 returns : tie.Need-returns Inv-loop μ-loop
 returns c =
-    let x = c .before .before .before .before .before .before .before .before .before .args in
+    let x = begun (c .before .before .before .before .before) .args in
     let l = c .before .before .before .before .before .loop in
-    let f : ℕ → Bool = wordsTest (now (x .table)) (now (x .news)) (x .marks) (x .i) (now (x .threads)) (x .at) in
+    let f : ℕ → Bool = wordsTest (now (x .frees)) (now (x .news)) (x .marks) (x .i) (now (x .threads)) (x .at) in
     let word = getD (now (x .threads)) (x .at + l .v) 0 in
     let e : c .before .word-formed .result ≡ f (l .v) =
     c .before .word-formed .ensures
@@ -58,17 +44,11 @@ returns c =
     let below = c .before .before .before .before .loop-test .taken in
     sym (false-every (x .names) f (l .v) below (sym e ∙ not-true (c .before .word-formed .result) (c .if1 .taken)))
 
-add-v : tie.Need-add-v Inv-loop μ-loop
-add-v c = search needs
-
-loop-less : tie.Need-loop-less Inv-loop μ-loop
-loop-less c = search needs
-
 loop-again : tie.Need-loop-again Inv-loop μ-loop
 loop-again c =
-    let x = c .before .before .before .before .before .before .before .before .before .args in
+    let x = begun (c .before .before .before .before .before) .args in
     let l = c .before .before .before .before .before .loop in
-    let f : ℕ → Bool = wordsTest (now (x .table)) (now (x .news)) (x .marks) (x .i) (now (x .threads)) (x .at) in
+    let f : ℕ → Bool = wordsTest (now (x .frees)) (now (x .news)) (x .marks) (x .i) (now (x .threads)) (x .at) in
     let word = getD (now (x .threads)) (x .at + l .v) 0 in
     let e : c .before .word-formed .result ≡ f (l .v) =
     c .before .word-formed .ensures
@@ -80,23 +60,11 @@ returns-2 c =
     let x = c .before .before .before .before .before .args in
     let l = c .before .loop in
     let done : l .v ≡ x .names = omega arith in
-    sym (ap (λ (n : ℕ). every n (wordsTest (now (x .table)) (now (x .news)) (x .marks) (x .i) (now (x .threads)) (x .at))) (sym done) ∙ l .inv .1)
+    sym (ap (λ (n : ℕ). every n (wordsTest (now (x .frees)) (now (x .news)) (x .marks) (x .i) (now (x .threads)) (x .at))) (sym done) ∙ l .inv .1)
 
 pub names-formed-spec : {M : Type 1} → statement M
 names-formed-spec =
     tie.close
     (tie.spec
-    Inv-loop
-    μ-loop
-    loop-holds
-    mul-is-marked
-    is-marked-requires
-    add-word-formed
-    mul-word-formed
-    shared-slice-read-word-formed
-    word-formed-requires
-    returns
-    add-v
-    loop-less
-    loop-again
-    returns-2)
+    Inv-loop μ-loop loop-holds (λ c. search needs) (λ c κs. search needs) (λ c. search needs) (λ c. search needs) (λ c. search needs)
+    (λ c κs. search needs) returns (λ c. search needs) (λ c. search needs) loop-again returns-2)

@@ -4,143 +4,69 @@ use native.Mathlib.Omega.{arith}
 use mathlib.Core.Path.{_≡_, sym, ap, _∙_}
 use mathlib.Core.Bool.{true}
 use denote.Ref.{now}
-use lib.Dec.{leb}
-use lib.ListN.{getD}
-use borrow.Author.Tests.{le-leb, lt-leb}
 use borrow.Author.Needs.{needs}
-use Rattle.model.specs.Tree.{nodeAt, isAgent}
-use Rattle.records.specs.declared.Record.{Record}
+use borrow.Author.Tests.{not-true, not-false}
+use Rattle.model.specs.Tree.{Array, nodeAt, isAgent}
+use Rattle.model.proofs.Tree.{agent-inside}
 use Rattle.records.specs.Record.{arrayOf}
-use Rattle.records.proofs.Laws.{agent-below, agent-past}
 use Rattle.threads.proofs.Laws.{no-agent, marker-past, names-tell}
 use Rattle.threads.proofs.thread_formed.Statement.{statement}
 use Rattle.threads.proofs.thread_formed.Tie as tie
 
-mul-wide : tie.Need-mul-wide
-mul-wide c = search needs
+-- the start, seen from the test of the agent
+abbrev begun : tie.After-is-agent → tie.Start
+begun c = c .before .before .before .before .before .before .before .before
 
-shared-slice-read-wide : tie.Need-shared-slice-read-wide
-shared-slice-read-wide c = search needs
+abbrev array : tie.After-is-agent → Array
+array c = arrayOf (now (begun c .args .file)) (begun c .args .t)
 
-wide-requires : tie.Need-wide-requires
-wide-requires c κs = search needs
+tested : (c : tie.After-is-agent) → c .is-agent .result ≡ isAgent (nodeAt (array c) (c .before .before .word-index .result))
+tested c = c .is-agent .ensures ∙ ap isAgent (c .before .node-or-stop .ensures)
+
+-- an agent is a node
+agent : (c : tie.Else1) → isAgent (nodeAt (array (c .before)) (c .before .before .before .word-index .result)) ≡ true
+agent c = sym (tested (c .before)) ∙ not-false _ (c .if1 .left)
+
+inside : (c : tie.Else1) → c .before .before .before .word-index .result < begun (c .before) .args .t .nodes
+inside c = agent-inside (array (c .before)) _ (agent c)
 
 returns : tie.Need-returns
 returns c =
-    let x = c .before .before .before .before .before .before .before .before .args in
-    let a = arrayOf (now (x .file)) (x .t) in
-    let i = c .before .before .wide .result in
-    let at : i ≡ getD (now (x .threads)) (x .at) 0 = c .before .before .wide .ensures .0 in
-    no-agent a (x .marks) (x .at) (now (x .threads)) i at (agent-past a i (c .if1 .taken))
-
-mul-record-at : tie.Need-mul-record-at
-mul-record-at c =
-    let few = c .before .before .before .before .before .before .before .before .pre .0 .0 .formed .fewNodes in
-    search needs
-
-add-record-at : tie.Need-add-record-at
-add-record-at c =
-    let few = c .before .before .before .before .before .before .before .before .before .pre .0 .0 .formed .fewNodes in
-    let fills = c .before .before .before .before .before .before .before .before .before .pre .0 .0 .fills in
-    search needs
-
-record-at-requires : tie.Need-record-at-requires
-record-at-requires c κs =
-    let fills = c .before .before .before .before .before .before .before .before .before .pre .0 .0 .fills in
-    search needs
+    let x = begun (c .before) .args in
+    let here = c .before .before .before .word-index .ensures .0 in
+    no-agent (array (c .before)) (x .marks) (x .at) (now (x .threads)) _ here (sym (not-true _ (c .if1 .taken)) ∙ tested (c .before))
 
 returns-2 : tie.Need-returns-2
 returns-2 c =
-    let x = c .before .before .before .before .before .before .before .before .before .before .before .before .args in
-    let a = arrayOf (now (x .file)) (x .t) in
-    let i = c .before .before .before .before .before .before .wide .result in
-    let at : i ≡ getD (now (x .threads)) (x .at) 0 = c .before .before .before .before .before .before .wide .ensures .0 in
-    let r = c .before .before .record-at in
-    let inside : i < x .t .nodes = c .before .before .before .before .if1 .left in
-    let kind = ap (λ (v : Record). leb 4 (v .kind)) (r .ensures) ∙ agent-below (now (x .file)) (x .t) i inside in
-    no-agent a (x .marks) (x .at) (now (x .threads)) i at (sym (lt-leb 4 (r .result .kind) (c .if2 .taken)) ∙ kind)
-
--- `held`: the list of words fits in memory; the search doesn't reach it by itself
-add-wide : tie.Need-add-wide
-add-wide c =
-    let start = c .before .before .before .before .before .before .before .before .before .before .before .before in
-    let room = start .pre .0 .1 in
-    let held = start .good .1 .1 .1 .1 .1 .0 in
-    search needs
-
-mul-wide-2 : tie.Need-mul-wide-2
-mul-wide-2 c =
-    let start = c .before .before .before .before .before .before .before .before .before .before .before .before in
-    let room = start .pre .0 .1 in
-    let held = start .good .1 .1 .1 .1 .1 .0 in
-    search needs
-
-shared-slice-read-wide-2 : tie.Need-shared-slice-read-wide-2
-shared-slice-read-wide-2 c = search needs
-
-wide-requires-2 : tie.Need-wide-requires-2
-wide-requires-2 c κs = search needs
-
-returns-3 : tie.Need-returns-3
-returns-3 c =
-    let x = c .before .before .before .before .before .before .before .before .before .before .before .before .before .before .before .args in
-    let a = arrayOf (now (x .file)) (x .t) in
-    let i = c .before .before .before .before .before .before .before .before .before .wide .result in
-    let at : i ≡ getD (now (x .threads)) (x .at) 0 = c .before .before .before .before .before .before .before .before .before .wide .ensures .0 in
-    let r = c .before .before .before .before .before .record-at in
-    let inside : i < x .t .nodes = c .before .before .before .before .before .before .before .if1 .left in
-    let kind = ap (λ (v : Record). leb 4 (v .kind)) (r .ensures) ∙ agent-below (now (x .file)) (x .t) i inside in
-    let agent : isAgent (nodeAt a i) ≡ true = sym kind ∙ le-leb 4 (r .result .kind) (c .before .before .before .if2 .left) in
-    let m = c .before .wide2 .ensures .0 in
-    marker-past a (x .marks) (x .at) (now (x .threads)) i at agent (omega arith)
-
-add-names-formed : tie.Need-add-names-formed
-add-names-formed c =
-    let start = c .before .before .before .before .before .before .before .before .before .before .before .before .before .before .before in
-    let room = start .pre .0 .1 in
-    let held = start .good .1 .1 .1 .1 .1 .0 in
-    search needs
+    let found = c .before .before .before in
+    let x = begun (found .before) .args in
+    let here = found .before .before .before .word-index .ensures .0 in
+    let m = c .before .word-index2 .ensures .0 in
+    marker-past (array (found .before)) (x .marks) (x .at) (now (x .threads)) _ here (agent found) (omega arith)
 
 names-formed-requires : tie.Need-names-formed-requires
 names-formed-requires c κs =
-    let formed = c .before .before .before .before .before .before .before .before .before .before .before .before .before .before .before .pre .0 .0 .formed in
-    let few = formed .fewNodes in
-    let names = formed .fewNames in
+    let found = c .before .before .before in
+    let i = inside found in
+    let p = begun (found .before) .pre in
+    let few = p .0 .0 .formed .fewNodes in
+    let names = p .0 .0 .formed .fewNames in
     search needs
 
-returns-4 : tie.Need-returns-4
-returns-4 c =
-    let x = c .before .before .before .before .before .before .before .before .before .before .before .before .before .before .before .before .args in
-    let a = arrayOf (now (x .file)) (x .t) in
-    let i = c .before .before .before .before .before .before .before .before .before .before .wide .result in
-    let at : i ≡ getD (now (x .threads)) (x .at) 0 = c .before .before .before .before .before .before .before .before .before .before .wide .ensures .0 in
-    let r = c .before .before .before .before .before .before .record-at in
-    let inside : i < x .t .nodes = c .before .before .before .before .before .before .before .before .if1 .left in
-    let kind = ap (λ (v : Record). leb 4 (v .kind)) (r .ensures) ∙ agent-below (now (x .file)) (x .t) i inside in
-    let agent : isAgent (nodeAt a i) ≡ true = sym kind ∙ le-leb 4 (r .result .kind) (c .before .before .before .before .if2 .left) in
-    let m = c .before .before .wide2 .ensures .0 in
-    let pre = c .before .before .before .before .before .before .before .before .before .before .before .before .before .before .before .before .pre in
-    let few = pre .0 .0 .formed .fewNames in
+returns-3 : tie.Need-returns-3
+returns-3 c =
+    let found = c .before .before .before .before in
+    let x = begun (found .before) .args in
+    let p = begun (found .before) .pre in
+    let here = found .before .before .before .word-index .ensures .0 in
+    let m = c .before .before .word-index2 .ensures .0 in
     c .names-formed .ensures
-    ∙ names-tell a (x .marks) (x .at) (now (x .threads)) i at agent (now (x .table)) (now (x .news)) (pre .1 .0 .1) (pre .1 .1 .1) inside few (omega arith)
+    ∙ names-tell (array (found .before)) (x .marks) (x .at) (now (x .threads)) _ here (agent found) (now (x .frees)) (now (x .news)) (p .1 .0 .1) (p .1 .1 .1)
+    (inside found) (p .0 .0 .formed .fewNames) (omega arith)
 
 pub thread-formed-spec : {M : Type 1} → statement M
 thread-formed-spec =
     tie.close
     (tie.spec
-    mul-wide
-    shared-slice-read-wide
-    wide-requires
-    returns
-    mul-record-at
-    add-record-at
-    record-at-requires
-    returns-2
-    add-wide
-    mul-wide-2
-    shared-slice-read-wide-2
-    wide-requires-2
-    returns-3
-    add-names-formed
-    names-formed-requires
-    returns-4)
+    (λ c. search needs) (λ c. search needs) (λ c κs. search needs) (λ c κs. search needs) (λ c κs. search needs) returns (λ c. search needs)
+    (λ c. search needs) (λ c. search needs) (λ c κs. search needs) returns-2 (λ c. search needs) names-formed-requires returns-3)

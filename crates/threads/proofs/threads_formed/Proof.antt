@@ -30,14 +30,15 @@ test-at file t marks threads count i at h e =
     ap (threadFormed (arrayOf file t) marks) (ap (λ (k : ℕ). threadIn (t .names) (drop k threads)) e ∙ sym (threads-at (t .names) i count threads h))
 
 abbrev Inv-loop : tie.InvT-loop
-Inv-loop file t table news marks threads count width at₀ i₀ at i =
+Inv-loop file t frees news marks threads count width at₀ i₀ at i =
     (i ≤ count) × (at ≡ i * (2 + t .names)) × (every i (threadTest file t marks threads count) ≡ true)
 
 abbrev μ-loop : tie.MeasureT-loop
-μ-loop file t table news marks threads count width at₀ i₀ at i = count - i
+μ-loop file t frees news marks threads count width at₀ i₀ at i = count - i
 
-add-width : tie.Need-add-width Inv-loop μ-loop
-add-width c = search needs
+-- the start, seen from the loop
+abbrev begun : tie.At-loop Inv-loop μ-loop → tie.Start Inv-loop μ-loop
+begun c = c .before .before .before .before .before .before
 
 loop-holds : tie.Need-loop-holds Inv-loop μ-loop
 loop-holds c = (omega arith, sym (zero-mul (2 + c .before .before .before .before .before .args .t .names)), every-zero _)
@@ -52,7 +53,7 @@ thread-formed-requires c κs =
 returns : tie.Need-returns Inv-loop μ-loop
 unfolding threadsFormed
 returns c =
-    let x = c .before .before .before .before .before .before .before .before .before .args in
+    let x = begun (c .before .before .before) .args in
     let l = c .before .before .before .loop in
     let f : ℕ → Bool = threadTest (now (x .file)) (x .t) (x .marks) (now (x .threads)) (x .count) in
     let e : c .before .thread-formed .result ≡ f (l .i) =
@@ -62,20 +63,14 @@ returns c =
 
 add-at : tie.Need-add-at Inv-loop μ-loop
 add-at c =
-    let x = c .before .before .before .before .before .before .before .before .before .args in
+    let x = begun (c .before .before .before) .args in
     let l = c .before .before .before .loop in
     let z = slot (x .t .names) (l .i) (x .count) (c .before .before .loop-test .taken) in
     search needs
 
-add-i : tie.Need-add-i Inv-loop μ-loop
-add-i c = search needs
-
-loop-less : tie.Need-loop-less Inv-loop μ-loop
-loop-less c = search needs
-
 loop-again : tie.Need-loop-again Inv-loop μ-loop
 loop-again c =
-    let x = c .before .before .before .before .before .before .before .before .before .args in
+    let x = begun (c .before .before .before) .args in
     let l = c .before .before .before .loop in
     let f : ℕ → Bool = threadTest (now (x .file)) (x .t) (x .marks) (now (x .threads)) (x .count) in
     let e : c .before .thread-formed .result ≡ f (l .i) =
@@ -96,14 +91,5 @@ pub threads-formed-spec : {M : Type 1} → statement M
 threads-formed-spec =
     tie.close
     (tie.spec
-    Inv-loop
-    μ-loop
-    add-width
-    loop-holds
-    thread-formed-requires
-    returns
-    add-at
-    add-i
-    loop-less
-    loop-again
+    Inv-loop μ-loop (λ c. search needs) loop-holds thread-formed-requires returns add-at (λ c. search needs) (λ c. search needs) loop-again
     returns-2)

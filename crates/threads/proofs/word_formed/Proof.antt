@@ -22,31 +22,22 @@ returns-2 : tie.Need-returns-2
 unfolding wordOk
 returns-2 c = rw (not-false (c .before .before .before .args .free) (c .before .if1 .left), eq-eqb (c .before .before .before .args .x) 0 (c .if2 .taken))
 
-sub-wide : tie.Need-sub-wide
-sub-wide c = search needs
-
-wide-requires : tie.Need-wide-requires
-wide-requires c κs = search needs
-
 returns-3 : tie.Need-returns-3
 unfolding wordOk
 returns-3 c =
     let x = c .before .before .before .before .before .args in
-    let e = c .before .wide .ensures .0 in
+    let e = c .before .word-index .ensures .0 in
     rw (
       not-false (x .free) (c .before .before .before .if1 .left),
       ne-eqb (x .x) 0 (c .before .before .if2 .left),
       marked-past (now (x .news)) (newIn (x .x)) (c .before .before .before .before .before .pre) (omega arith),
     )
 
-is-marked-requires : tie.Need-is-marked-requires
-is-marked-requires c κs = search needs
-
 returns-4 : tie.Need-returns-4
 unfolding wordOk
 returns-4 c =
     let x = c .before .before .before .before .before .before .args in
-    let e = c .before .before .wide .ensures .0 in
+    let e = c .before .before .word-index .ensures .0 in
     let o : c .is-marked .result ≡ marked (now (x .news)) 0 (newIn (x .x)) =
     c .is-marked .ensures ∙ ap (λ (n : ℕ). marked (now (x .news)) 0 (n / 65536)) e in
     rw (not-false (x .free) (c .before .before .before .before .if1 .left), ne-eqb (x .x) 0 (c .before .before .before .if2 .left))
@@ -55,4 +46,5 @@ returns-4 c =
 pub word-formed-spec : {M : Type 1} → statement M
 word-formed-spec =
     tie.close
-    (tie.spec returns returns-2 sub-wide wide-requires returns-3 is-marked-requires returns-4)
+    (tie.spec
+    returns returns-2 (λ c. search needs) (λ c κs. search needs) returns-3 (λ c κs. search needs) returns-4)

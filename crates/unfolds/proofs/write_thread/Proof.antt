@@ -13,32 +13,8 @@ use Rattle.unfolds.proofs.Laws.{thread-put}
 use Rattle.unfolds.proofs.write_thread.Statement.{statement}
 use Rattle.unfolds.proofs.write_thread.Tie as tie
 
-cast-threads : tie.Need-cast-threads
-cast-threads c = search needs
-
-mul-threads : tie.Need-mul-threads
-mul-threads c = search needs
-
-slice-write-threads : tie.Need-slice-write-threads
-slice-write-threads c = search needs
-
-add-threads : tie.Need-add-threads
-add-threads c = search needs
-
-mul-threads-2 : tie.Need-mul-threads-2
-mul-threads-2 c = search needs
-
 slice-write-threads-2 : tie.Need-slice-write-threads-2
 slice-write-threads-2 c = simp length-set (omega arith)
-
-mul-write-names : tie.Need-mul-write-names
-mul-write-names c = search needs
-
-add-write-names : tie.Need-add-write-names
-add-write-names c = search needs
-
-write-names-requires : tie.Need-write-names-requires
-write-names-requires c κs = search needs
 
 same-length : tie.Need-same-length
 same-length c = c .before .before .write-names .kept .1 .1 .1 .0 ∙ simp length-set
@@ -46,21 +22,12 @@ same-length c = c .before .before .write-names .kept .1 .1 .1 .0 ∙ simp length
 returns : tie.Need-returns
 returns c =
     let x = c .before .before .before .before .before .before .before .args in
-    let n = length-cut (words []) (marked (now (x .table)) (4 * x .i)) 0 (now (x .env)) in
+    let n = length-cut (words []) (marked (now (x .frees)) (4 * x .i)) 0 (now (x .env)) in
     c .before .before .write-names .ensures ∙ thread-put (x .at) (x .i) (x .mark) _ (now (x .threads)) (omega arith)
 
 pub write-thread-spec : {M : Type 1} → statement M
 write-thread-spec =
     tie.close
     (tie.spec
-    cast-threads
-    mul-threads
-    slice-write-threads
-    add-threads
-    mul-threads-2
-    slice-write-threads-2
-    mul-write-names
-    add-write-names
-    write-names-requires
-    same-length
-    returns)
+    (λ c. search needs) (λ c. search needs) (λ c. search needs) (λ c. search needs) (λ c. search needs) slice-write-threads-2 (λ c. search needs)
+    (λ c. search needs) (λ c κs. search needs) same-length returns)

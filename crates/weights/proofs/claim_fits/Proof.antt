@@ -1,37 +1,18 @@
 -- The tests are the definition's, of the numbers that were read.
+use mathlib.Core.Path.{ap, _∙_}
+use Rattle.model.specs.Tree.{isAgent}
 use borrow.Author.Needs.{needs}
 use Rattle.weights.proofs.claim_fits.Statement.{statement}
 use Rattle.weights.proofs.claim_fits.Tie as tie
 
-u16-at-requires : tie.Need-u16-at-requires
-u16-at-requires c κs = search needs
-
-is-agent-requires : tie.Need-is-agent-requires
-is-agent-requires c κs = search needs
-
-add-u16-at : tie.Need-add-u16-at
-add-u16-at c = search needs
-
-u16-at-requires-2 : tie.Need-u16-at-requires-2
-u16-at-requires-2 c κs = search needs
-
-add-u16-at-2 : tie.Need-add-u16-at-2
-add-u16-at-2 c = search needs
-
-u16-at-requires-3 : tie.Need-u16-at-requires-3
-u16-at-requires-3 c κs = search needs
-
 returns : tie.Need-returns
-returns c = rw (c .before .before .is-agent .ensures, c .before .before .before .u16-at .ensures, c .before .u16-at2 .ensures, c .u16-at3 .ensures)
+returns c =
+    let named = c .before .before .is-agent .ensures ∙ ap isAgent (c .before .before .before .node-or-stop .ensures) in
+    rw (named, c .before .before .before .before .u16-at .ensures, c .before .u16-at2 .ensures, c .u16-at3 .ensures)
 
 pub claim-fits-spec : {M : Type 1} → statement M
 claim-fits-spec =
     tie.close
     (tie.spec
-    u16-at-requires
-    is-agent-requires
-    add-u16-at
-    u16-at-requires-2
-    add-u16-at-2
-    u16-at-requires-3
-    returns)
+    (λ c κs. search needs) (λ c κs. search needs) (λ c κs. search needs) (λ c. search needs) (λ c κs. search needs) (λ c. search needs)
+    (λ c κs. search needs) returns)

@@ -7,21 +7,11 @@ use Rattle.weights.proofs.padding_fits.Tie as tie
 returns : tie.Need-returns
 returns c = rw (eq-eqb _ _ (c .if1 .taken))
 
-add-u16-at : tie.Need-add-u16-at
-add-u16-at c = search needs
-
-mul-u16-at : tie.Need-mul-u16-at
-mul-u16-at c = search needs
-
-add-u16-at-2 : tie.Need-add-u16-at-2
-add-u16-at-2 c = search needs
-
-u16-at-requires : tie.Need-u16-at-requires
-u16-at-requires c κs = search needs
-
 returns-2 : tie.Need-returns-2
 returns-2 c = rw (ne-eqb _ _ (c .before .if1 .left), c .u16-at .ensures)
 
 pub padding-fits-spec : {M : Type 1} → statement M
 padding-fits-spec =
-    tie.close (tie.spec returns add-u16-at mul-u16-at add-u16-at-2 u16-at-requires returns-2)
+    tie.close
+    (tie.spec
+    returns (λ c. search needs) (λ c. search needs) (λ c. search needs) (λ c κs. search needs) returns-2)
