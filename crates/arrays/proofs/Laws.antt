@@ -18,14 +18,14 @@ use Rattle.records.specs.declared.Check.{Check}
 use Rattle.records.specs.Record.{recordOf, foundOf}
 use Rattle.fields.specs.Fields.{shapeFits, refusal6}
 use Rattle.arrays.specs.declared.ArrayAnswer.the-variants.{Read, Refused}
-use Rattle.arrays.specs.File.{trailerOf, lengthFits, countsFit, startFits, refusal1, from2, arrayRefusal, answer, readArray, IsRead}
+use Rattle.arrays.specs.File.{trailerOf, arrayLengthFits, arrayCountsFit, startFits, refusal1, from2, arrayRefusal, trailerAnswer, readArray, IsRead}
 
 -- ---- what the tests of the trailer say
 
-pub length-fits : (s : List ℕ) → lengthFits s ≡ true → 16 ≤ length s
+pub length-fits : (s : List ℕ) → arrayLengthFits s ≡ true → 16 ≤ length s
 length-fits s e = leb-true _ _ (and-split (leb 16 (length s)) _ (and-split (leb 16 (length s) && leb (length s) 17424) _ e .0) .0)
 
-pub counts-fit : (t : Trailer) → countsFit t ≡ true → (1 ≤ t .nodes) × (t .nodes ≤ 1024) × (t .names ≤ 256)
+pub counts-fit : (t : Trailer) → arrayCountsFit t ≡ true → (1 ≤ t .nodes) × (t .nodes ≤ 1024) × (t .names ≤ 256)
 counts-fit t e =
     let c = and-split (leb 1 (t .nodes) && leb (t .nodes) 1024) (leb (t .names) 256) e in
     let n = and-split (leb 1 (t .nodes)) (leb (t .nodes) 1024) (c .0) in
@@ -35,20 +35,20 @@ pub start-fits : (s : List ℕ) (t : Trailer) → startFits s t ≡ true → (t 
 start-fits s t e = let c = and-split (leb (t .start) 1024) _ e in (leb-true _ _ (c .0), eqb-true _ _ (c .1))
 
 -- the answer, once the length fits and the rest has been checked
-pub answered-by : (s : List ℕ) (t : Trailer) (x : Check) → lengthFits s ≡ true → t ≡ trailerOf s → foundOf x ≡ from2 s t
-    → answer (foundOf x) t ≡ readArray s
+pub answered-by : (s : List ℕ) (t : Trailer) (x : Check) → arrayLengthFits s ≡ true → t ≡ trailerOf s → foundOf x ≡ from2 s t
+    → trailerAnswer (foundOf x) t ≡ readArray s
 unfolding readArray
 answered-by s t x fits e found =
-    ap₂ answer (found ∙ ap (from2 s) e ∙ sym (clear-andThen (refusal1 s) (from2 s (trailerOf s)) (clear-test (lengthFits s) _ fits))) e
+    ap₂ trailerAnswer (found ∙ ap (from2 s) e ∙ sym (clear-andThen (refusal1 s) (from2 s (trailerOf s)) (clear-test (arrayLengthFits s) _ fits))) e
 
 -- ---- a file that was read
 
 -- what an answer says of the search
-pub answered : (f : Found F.Refusal) (t u : Trailer) → answer f t ≡ Read u → (f ≡ clear) × (t ≡ u)
+pub answered : (f : Found F.Refusal) (t u : Trailer) → trailerAnswer f t ≡ Read u → (f ≡ clear) × (t ≡ u)
 answered clear t u e = (refl, cc)
 answered (hit r) t u e = (cc, cc)
 
-pub denied : (f : Found F.Refusal) (t : Trailer) (r : Refusal) → answer f t ≡ Refused r → f ≡ hit record { number = r .number; place = r .place }
+pub denied : (f : Found F.Refusal) (t : Trailer) (r : Refusal) → trailerAnswer f t ≡ Refused r → f ≡ hit record { number = r .number; place = r .place }
 denied clear t r e = cc
 denied (hit q) t r e = let p : _≡_ {A = Refusal} record { number = q .number; place = q .place } r = cc in rw (← p)
 

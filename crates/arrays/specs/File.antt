@@ -20,8 +20,8 @@ abbrev pub pis1 : ℕ
 pis1 = 80 + 256 * 73 + 65536 * 83 + 16777216 * 49
 
 -- the format that the letters name; 0 stands for none
-abbrev pub formOf : ℕ → ℕ
-formOf letters = cond (eqb letters pis1) 1 0
+abbrev pub arrayForm : ℕ → ℕ
+arrayForm letters = cond (eqb letters pis1) 1 0
 
 -- "a 16-byte trailer that points back: start of the records (32 bits), M (16), N (16), word sum (32), the letters `PIS1`"
 abbrev pub trailerOf : List ℕ → Trailer
@@ -30,26 +30,26 @@ trailerOf s = record {
   nodes = u16At s (length s - 12);
   names = u16At s (length s - 10);
   sum = u32At s (length s - 8);
-  form = formOf (u32At s (length s - 4));
+  form = arrayForm (u32At s (length s - 4));
 }
 
 -- "1. The array file is shorter than 16 bytes, longer than 17,424, or no multiple of 4."
-abbrev pub lengthFits : List ℕ → Bool
-lengthFits s = leb 16 (length s) && leb (length s) 17424 && eqb (length s % 4) 0
+abbrev pub arrayLengthFits : List ℕ → Bool
+arrayLengthFits s = leb 16 (length s) && leb (length s) 17424 && eqb (length s % 4) 0
 
 abbrev pub refusal1 : List ℕ → Found F.Refusal
-refusal1 s = refuse 1 0 (lengthFits s)
+refusal1 s = refuse 1 0 (arrayLengthFits s)
 
 -- "2. Its letters are wrong."
 abbrev pub refusal2 : Trailer → Found F.Refusal
 refusal2 t = refuse 2 0 (eqb (t .form) 1)
 
 -- "3. M is 0 or above 1,024, or N is above 256."
-abbrev pub countsFit : Trailer → Bool
-countsFit t = leb 1 (t .nodes) && leb (t .nodes) 1024 && leb (t .names) 256
+abbrev pub arrayCountsFit : Trailer → Bool
+arrayCountsFit t = leb 1 (t .nodes) && leb (t .nodes) 1024 && leb (t .names) 256
 
 abbrev pub refusal3 : Trailer → Found F.Refusal
-refusal3 t = refuse 3 0 (countsFit t)
+refusal3 t = refuse 3 0 (arrayCountsFit t)
 
 -- "4. Start above 1,024, or start + 16 × M + 16 is not the length."
 abbrev pub startFits : List ℕ → Trailer → Bool
@@ -79,12 +79,12 @@ arrayRefusal s =
     (andThen (refusal11 (arrayOf s t)) (refusal12 (arrayOf s t))))))))))))
 
 -- the reader's answer: what the trailer says, or the first refusal
-abbrev pub answer : Found F.Refusal → Trailer → ArrayAnswer
-answer clear t = Read t
-answer (hit r) t = Refused record { number = r .number; place = r .place }
+abbrev pub trailerAnswer : Found F.Refusal → Trailer → ArrayAnswer
+trailerAnswer clear t = Read t
+trailerAnswer (hit r) t = Refused record { number = r .number; place = r .place }
 
 unfoldable pub readArray : List ℕ → ArrayAnswer
-readArray s = answer (arrayRefusal s) (trailerOf s)
+readArray s = trailerAnswer (arrayRefusal s) (trailerOf s)
 
 -- "The reader hands back the remark as a part of the caller's own file, an empty part after a refusal."
 abbrev pub remarkIn : ArrayAnswer → List ℕ → List ℕ

@@ -7,7 +7,7 @@ ghost use lib.ListN.{length};
 ghost use Rattle.laws.specs.Search.{clear};
 ghost use Rattle.model.specs.Formed.{refusal8, refusal9};
 ghost use Rattle.records.specs.Record.{arrayOf, foundOf, RecordsFit};
-ghost use Rattle.arrays.specs.File.{formOf, trailerOf, from2, from4, from6, from8, from10, readArray, remarkOf};
+ghost use Rattle.arrays.specs.File.{arrayForm, trailerOf, from2, from4, from6, from8, from10, readArray, remarkOf};
 use records::Check;
 use records::Refusal;
 use records::Trailer;
@@ -18,8 +18,8 @@ pub enum ArrayAnswer {
 }
 
 // The format that the letters name: 1 for `PIS1`, 0 for none.
-fn form_of(letters: u32) -> usize
-    ensures { λ n. ⌜ n ≡ formOf letters ⌝ }
+fn array_form(letters: u32) -> usize
+    ensures { λ n. ⌜ n ≡ arrayForm letters ⌝ }
 {
     if letters == 827541840 {
         return 1;
@@ -38,7 +38,7 @@ fn read_trailer(file: &[u8]) -> Trailer
         nodes: wire::u16_at(file, len - 12),
         names: wire::u16_at(file, len - 10),
         sum: wire::u32_at(file, len - 8),
-        form: form_of(wire::u32_at(file, len - 4)),
+        form: array_form(wire::u32_at(file, len - 4)),
     }
 }
 

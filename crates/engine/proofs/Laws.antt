@@ -44,9 +44,6 @@ use Rattle.engine.specs.Engine.{Strides, added, walkedOf, checkedStep}
 
 -- ---- a pair that was found
 
-hit-inj : {u v : Attempt} → hit u ≡ hit v → u ≡ v
-hit-inj e = cc
-
 -- it lies below the count and is ready
 pub found-meets : (a : Array) (c : Config ℕ ℕ) (k : ℕ) (ch : Choices) (r s : ℕ) → hit (try ch r s) ≡ firstMeeting a c k ch
     → (r < k) × (s < k) × (meeting a (getD c r nobody) (getD c s nobody) ≡ 0)

@@ -182,8 +182,7 @@ pub fn step(
         e (now (threads .exit)) (now (markers .exit)) ⌝ }
 {
     let mut frees = [0u64; 4096];
-    frees::fill_frees(&mut frees, file, t);
-    if !lent::well_formed(file, t, &frees, threads, markers, counts) {
+    if !lent::lists_formed(&mut frees, file, t, threads, markers, counts) {
         return Fired::Stopped(23);
     }
     step_formed(file, t, &frees, choices, threads, markers, counts, r, s)
@@ -322,8 +321,7 @@ pub fn walk_lists(
         (lentOf (now (threads .entry)) (now (markers .entry)) counts) e (now (threads .exit)) (now (markers .exit)) ⌝ }
 {
     let mut frees = [0u64; 4096];
-    frees::fill_frees(&mut frees, file, t);
-    if !lent::well_formed(file, t, &frees, threads, markers, counts) {
+    if !lent::lists_formed(&mut frees, file, t, threads, markers, counts) {
         return Walked::Refused(23);
     }
     Walked::Walked(walk_formed(file, t, &frees, choices, threads, markers, counts, allowed))
@@ -344,8 +342,7 @@ pub fn next_turn(
         (lentOf (now (threads .entry)) (now (markers .entry)) counts) e (now (threads .exit)) (now (markers .exit)) ⌝ }
 {
     let mut frees = [0u64; 4096];
-    frees::fill_frees(&mut frees, file, t);
-    if !lent::well_formed(file, t, &frees, threads, markers, counts) {
+    if !lent::lists_formed(&mut frees, file, t, threads, markers, counts) {
         return Strode::Refused(23);
     }
     Strode::Strode(stride_formed(

@@ -13,11 +13,11 @@ use Rattle.layout.specs.Table.{rowBit, refusal19}
 
 -- the test of row v by marks: it lies inside the row of the names that news open
 abbrev pub check : List ℕ → List ℕ → ℕ → Found Refusal
-check rows news v = refuse 19 v (inside rows (4 * v) news 0)
+check rows news v = refuse 19 v (inside rows v news 0)
 
 -- where the marks are right, the tests of all rows are refusal 19
 pub rows-checked : (a : Array) (s : List ℕ) (z : Sizes) (rows news : List ℕ)
-    → ((v o : ℕ) → v < z .names → o < 256 → marked rows (4 * v) o ≡ rowBit s z v o) → ((o : ℕ) → marked news 0 o ≡ isNew a o)
+    → ((v o : ℕ) → v < z .names → o < 256 → marked rows v o ≡ rowBit s z v o) → ((o : ℕ) → marked news 0 o ≡ isNew a o)
     → first (z .names) (check rows news) ≡ refusal19 a s z
 unfolding inside refusal19
 rows-checked a s z rows news bits opened =

@@ -17,7 +17,7 @@ use Rattle.laws.specs.Bits.{bit}
 use Rattle.laws.proofs.Search.{any-step}
 use Rattle.laws.proofs.Lists.{has-here, has-later}
 use Rattle.laws.proofs.Bits.{bit-or, bit-less}
-use Rattle.marks.specs.Marks.{marked, markIf}
+use Rattle.marks.specs.Marks.{wordAt, marked, markIf}
 use Rattle.marks.proofs.Laws.{marked-more}
 use Rattle.model.specs.Tree.{Array, Sort, Node, out, inp, resource, freeBelow, nodeAt, procAt, isFree, isAgent, opens}
 use Rattle.model.specs.Memory.{isOut}
@@ -102,49 +102,49 @@ module _ (r : Record) where
 
 -- every word outside row i is as it was
 abbrev pub SameElse : List ℕ → List ℕ → ℕ → Type 0
-SameElse before after i = (j k : ℕ) → j ≢ i → k < 4 → getD after (4 * j + k) 0 ≡ getD before (4 * j + k) 0
+SameElse before after i = (j k : ℕ) → j ≢ i → k < 4 → getD after (wordAt j k) 0 ≡ getD before (wordAt j k) 0
 
 -- the first n words of row i are right
 abbrev pub RowTo : List ℕ → List ℕ → ℕ → Node → ℕ → Type 0
-RowTo before after i m n = (v : ℕ) → v < 64 * n → marked after (4 * i) v ≡ freeOf (λ c. marked before (4 * c) v) m v
+RowTo before after i m n = (v : ℕ) → v < 64 * n → marked after i v ≡ freeOf (λ c. marked before c v) m v
 
 module _ (before after : List ℕ) (i w : ℕ) (few : w < 4) (same : SameElse before after i) where
-  pub else-set : (x : ℕ) → SameElse before (set after (4 * i + w) x) i
-  else-set x j k ne h = getD-set-other after (4 * i + w) (4 * j + k) x 0 (λ e. ne (omega arith)) ∙ same j k ne h
+  pub else-set : (x : ℕ) → SameElse before (set after (wordAt i w) x) i
+  else-set x j k ne h = getD-set-other after (wordAt i w) (wordAt j k) x 0 (λ e. ne (omega arith)) ∙ same j k ne h
 
   -- word w is written, by what is free below it
-  module _ (fits : 4 * i + w < length after) (n : Node) (above : (c : ℕ) → has (children n) c ≡ true → i < c)
+  module _ (fits : wordAt i w < length after) (n : Node) (above : (c : ℕ) → has (children n) c ≡ true → i < c)
       (used bound : List ℕ) (uses-right : (v : ℕ) → v < 256 → marked used 0 v ≡ has (uses n) v)
       (binds-right : (v : ℕ) → v < 256 → marked bound 0 v ≡ has (binds n) v)
-      (x : ℕ) (below : (k : ℕ) → bit x k ≡ atChild (λ c. bit (getD after (4 * c + w) 0) k) n) where
+      (x : ℕ) (below : (k : ℕ) → bit x k ≡ atChild (λ c. bit (getD after (wordAt c w) 0) k) n) where
     abbrev word : ℕ
     word = bitOr (getD used w 0) (bitXor x (bitAnd x (getD bound w 0)))
 
-    here : (v : ℕ) → v < 256 → v / 64 ≡ w → bit word (v % 64) ≡ freeOf (λ c. marked before (4 * c) v) n v
+    here : (v : ℕ) → v < 256 → v / 64 ≡ w → bit word (v % 64) ≡ freeOf (λ c. marked before c v) n v
     unfolding marked
     here v h q =
         bit-or (getD used w 0) (bitXor x (bitAnd x (getD bound w 0))) (v % 64)
         ∙ ap₂ _||_ (own used ∙ uses-right v h)
         (bit-less x (getD bound w 0) (v % 64)
         ∙ ap₂ (λ (a b : Bool). not a && b) (own bound ∙ binds-right v h)
-        (below (v % 64) ∙ child-agree _ (λ c. marked before (4 * c) v) n (λ c g. kept c (above c g))))
-        ∙ sym (free-split (λ c. marked before (4 * c) v) n v)
+        (below (v % 64) ∙ child-agree _ (λ c. marked before c v) n (λ c g. kept c (above c g))))
+        ∙ sym (free-split (λ c. marked before c v) n v)
       where
         own : (l : List ℕ) → bit (getD l w 0) (v % 64) ≡ bit (getD l (0 + v / 64) 0) (v % 64)
         own l = rw (zero-add, q)
 
-        kept : (c : ℕ) → i < c → bit (getD after (4 * c + w) 0) (v % 64) ≡ bit (getD before (4 * c + v / 64) 0) (v % 64)
+        kept : (c : ℕ) → i < c → bit (getD after (wordAt c w) 0) (v % 64) ≡ bit (getD before (wordAt c (v / 64)) 0) (v % 64)
         kept c g = rw q (ap (λ (y : ℕ). bit y (v % 64)) (same c w (λ e. absurd (omega arith)) few))
 
-    pub row-set : RowTo before after i n w → RowTo before (set after (4 * i + w) word) i n (w + 1)
+    pub row-set : RowTo before after i n w → RowTo before (set after (wordAt i w) word) i n (w + 1)
     unfolding marked
     row-set row v h =
         ⊎-elim
         (λ (q : v / 64 ≡ w).
-        ap (λ (m : ℕ). bit (getD (set after (4 * i + w) word) (4 * i + m) 0) (v % 64)) q
-        ∙ ap (λ (y : ℕ). bit y (v % 64)) (getD-set-same after (4 * i + w) word 0 fits) ∙ here v (omega arith) q)
+        ap (λ (m : ℕ). bit (getD (set after (wordAt i w) word) (wordAt i m) 0) (v % 64)) q
+        ∙ ap (λ (y : ℕ). bit y (v % 64)) (getD-set-same after (wordAt i w) word 0 fits) ∙ here v (omega arith) q)
         (λ (l : v / 64 < w).
-        ap (λ (y : ℕ). bit y (v % 64)) (getD-set-other after (4 * i + w) (4 * i + v / 64) word 0 (λ q. absurd (omega arith)))
+        ap (λ (y : ℕ). bit y (v % 64)) (getD-set-other after (wordAt i w) (wordAt i (v / 64)) word 0 (λ q. absurd (omega arith)))
         ∙ row v (omega arith))
         (eq-or-lt-of-le (omega arith))
 

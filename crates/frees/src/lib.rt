@@ -10,7 +10,7 @@ ghost use Rattle.laws.specs.Bits.{bit};
 ghost use Rattle.model.specs.Tree.{isNew};
 ghost use Rattle.model.specs.Formed.{children, uses};
 ghost use Rattle.records.specs.Record.{RecordsFit, nodeOf, arrayOf};
-ghost use Rattle.marks.specs.Marks.{marked};
+ghost use Rattle.marks.specs.Marks.{wordAt, HasRow, marked};
 ghost use Rattle.arrays.specs.File.{IsRead};
 ghost use Rattle.frees.specs.Frees.{atChild, RowsAbove, RowFilled, AllFree};
 use records::Record;
@@ -44,22 +44,23 @@ fn used_by(r: Record) -> [u64; 4]
 
 // Word w of the names free in the children of a node whose record is r.
 fn below(frees: &[u64], r: Record, w: usize) -> u64
-    requires { ⌜ (w < 4) × ((c : ℕ) → has (children (nodeOf r)) c ≡ true → 4 * c + 3 < length (now frees)) ⌝ }
-    ensures { λ x. ⌜ ((k : ℕ) → bit x k ≡ atChild (λ c. bit (getD (now (frees .entry)) (4 * c + w) 0) k) (nodeOf r)) ⌝ }
+    requires { ⌜ (w < 4) × ((c : ℕ) → has (children (nodeOf r)) c ≡ true → HasRow (now frees) c) ⌝ }
+    ensures { λ x. ⌜ ((k : ℕ) → bit x k ≡ atChild (λ c. bit (getD (now (frees .entry)) (wordAt c w) 0) k) (nodeOf r)) ⌝ }
 {
     if records::is_stop(r) {
         return 0;
     }
-    let left = frees[4 * r.left + w];
+    let left = marks::word_at(frees, r.left, w);
     if records::branches(r) {
-        return left | frees[4 * r.right + w];
+        let right = marks::word_at(frees, r.right, w);
+        return left | right;
     }
     left
 }
 
 // The row of node i, whose record is r, from the rows of its children: what it uses, and what is free below and not bound by it.
 fn fill_row(frees: &mut [u64], i: usize, r: Record)
-    requires { ⌜ (r .name < 256) × (4 * i + 3 < length (now frees)) × RowsAbove (now frees) i (nodeOf r) ⌝ }
+    requires { ⌜ (r .name < 256) × HasRow (now frees) i × RowsAbove (now frees) i (nodeOf r) ⌝ }
     ensures { λ _. ⌜ RowFilled (now (frees .entry)) (now (frees .exit)) i (nodeOf r) ⌝ }
 {
     let used = used_by(r);
@@ -68,7 +69,7 @@ fn fill_row(frees: &mut [u64], i: usize, r: Record)
     while w < 4 {
         let inside = below(frees, r, w);
         let own = inside & bound[w];
-        frees[4 * i + w] = used[w] | (inside ^ own);
+        marks::set_word(frees, i, w, used[w] | (inside ^ own));
         w += 1;
     }
 }

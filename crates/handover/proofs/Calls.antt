@@ -25,7 +25,7 @@ use Rattle.records.specs.declared.Trailer.{Trailer}
 use Rattle.records.specs.Record.{arrayOf}
 use Rattle.arrays.specs.declared.ArrayAnswer.{ArrayAnswer}
 use Rattle.arrays.specs.declared.ArrayAnswer.the-variants as A
-use Rattle.arrays.specs.File.{trailerOf, arrayRefusal, readArray, answer, IsRead}
+use Rattle.arrays.specs.File.{trailerOf, arrayRefusal, readArray, trailerAnswer, IsRead}
 use Rattle.arrays.proofs.Laws.{answered, denied, read-passes, read-refuses, read-is}
 use Rattle.steps.specs.declared.Fired.{Fired}
 use Rattle.steps.specs.declared.Fired.the-variants.{Stopped, Made}
@@ -52,7 +52,7 @@ use Rattle.handover.specs.declared.StrideAnswer.the-variants as StrideA
 use Rattle.handover.specs.declared.WalkAnswer.the-variants as WalkA
 use Rattle.handover.specs.Front.{arrayIn}
 use Rattle.handover.specs.Engine as H
-use Rattle.handover.specs.Engine.{Told, turned, left, unless, resultLeft, countsIn, walkLeft, startRefusal, lentRefusal}
+use Rattle.handover.specs.Engine.{Told, turned, left, leftUnless, resultLeft, countsIn, walkLeft, startRefusal, lentRefusal}
 use Rattle.handover.specs.Engine.{unchanged, Followed, over, then}
 use Rattle.handover.specs.Engine.{Left, startOf, stepOf, walkOf, nextLeft, strideOf, saysStart, saysStep, saysStride, saysWalk}
 use Rattle.handover.specs.Engine.{StartPromise, StepPromise, WalkPromise, StridePromise}
@@ -63,22 +63,24 @@ use Rattle.handover.proofs.Refusals.{reads, Small, start-small, lent-st
 -- ---- refusals 1 to 12 and 22
 
 module _ (f choices : List ℕ) where
-  pub admit-refused : (r : Refusal) → readArray f ≡ A.Refused r → A.Refused r ≡ answer (startRefusal f choices) (trailerOf f)
-  admit-refused r e = ap (λ (x : Found F.Refusal). answer x (trailerOf f)) (sym (hit-andThen (arrayRefusal f) (refusal22 choices) _ (read-refuses f r e)))
+  pub admit-refused : (r : Refusal) → readArray f ≡ A.Refused r → A.Refused r ≡ trailerAnswer (startRefusal f choices) (trailerOf f)
+  admit-refused r e =
+      ap (λ (x : Found F.Refusal). trailerAnswer x (trailerOf f))
+      (sym (hit-andThen (arrayRefusal f) (refusal22 choices) _ (read-refuses f r e)))
 
   pub admit-22 : (t : Trailer) → readArray f ≡ A.Read t → length choices ≢ 128
-      → A.Refused record { number = 22; place = 0 } ≡ answer (startRefusal f choices) (trailerOf f)
+      → A.Refused record { number = 22; place = 0 } ≡ trailerAnswer (startRefusal f choices) (trailerOf f)
   admit-22 t e n =
-      ap (λ (x : Found F.Refusal). answer x (trailerOf f))
+      ap (λ (x : Found F.Refusal). trailerAnswer x (trailerOf f))
       (sym (clear-andThen (arrayRefusal f) (refusal22 choices) (read-passes f t e .0) ∙ hit-test (eqb (length choices) 128) _ (ne-eqb (length choices) 128 n)))
 
-  pub admit-read : (t : Trailer) → readArray f ≡ A.Read t → length choices ≡ 128 → A.Read t ≡ answer (startRefusal f choices) (trailerOf f)
+  pub admit-read : (t : Trailer) → readArray f ≡ A.Read t → length choices ≡ 128 → A.Read t ≡ trailerAnswer (startRefusal f choices) (trailerOf f)
   admit-read t e n =
       ap A.Read (sym (read-passes f t e .1))
-      ∙ ap (λ (x : Found F.Refusal). answer x (trailerOf f))
+      ∙ ap (λ (x : Found F.Refusal). trailerAnswer x (trailerOf f))
       (sym (andThen-join (arrayRefusal f) (refusal22 choices) (read-passes f t e .0) (clear-test (eqb (length choices) 128) _ (eq-eqb (length choices) 128 n))))
 
-  module _ (x : ArrayAnswer) (e : x ≡ answer (startRefusal f choices) (trailerOf f)) where
+  module _ (x : ArrayAnswer) (e : x ≡ trailerAnswer (startRefusal f choices) (trailerOf f)) where
     pub not-admitted : (r : Refusal) → x ≡ A.Refused r → startRefusal f choices ≡ hit record { number = r .number; place = r .place }
     not-admitted r q = denied (startRefusal f choices) (trailerOf f) r (sym e ∙ q)
 
@@ -100,11 +102,11 @@ module _ {A : Type 0} (f : Memory → A) where
   result-left m r (Made n y) l ml h = ap (resultLeft f m) (sym h)
 
   -- refusal 23 first
-  step-checked : (a : Array) (m : Memory) (u : Attempt) → unless (refusal23 a m) m (resultLeft f m (stepIn a m u)) ≡ resultLeft f m (checkedStep a m u)
+  step-checked : (a : Array) (m : Memory) (u : Attempt) → leftUnless (refusal23 a m) m (resultLeft f m (stepIn a m u)) ≡ resultLeft f m (checkedStep a m u)
   unfolding checkedStep test
   step-checked a m u = go (formed a m) refl
     where
-      go : (b : Bool) → formed a m ≡ b → unless (refusal23 a m) m (resultLeft f m (stepIn a m u)) ≡ resultLeft f m (checkedStep a m u)
+      go : (b : Bool) → formed a m ≡ b → leftUnless (refusal23 a m) m (resultLeft f m (stepIn a m u)) ≡ resultLeft f m (checkedStep a m u)
       go true e = rw e
       go false e = rw e
 
@@ -138,7 +140,7 @@ reply-of {A} e = ap (λ (o : Left A). o .reply) e
 
 -- the number that a reply refuses by
 module _ {A : Type 0} (P : ℕ → Type 0) (n p : ℕ) where
-  unless-listed : (x : Found F.Refusal) (m : Memory) (o : Left A) → Small P x → (o .reply ≡ refused n p → P n) → unless x m o .reply ≡ refused n p → P n
+  unless-listed : (x : Found F.Refusal) (m : Memory) (o : Left A) → Small P x → (o .reply ≡ refused n p → P n) → leftUnless x m o .reply ≡ refused n p → P n
   unless-listed clear m o h k e = k e
   unless-listed (hit r) m o h k e = let z : r .number ≡ n = cc in subst P z (h r refl .0)
 
@@ -188,7 +190,7 @@ module _ (f choices : List ℕ) where
   unfolding strideOf nextLeft
   stride-over m w x s e = go (lentRefusal f choices m) (nextIn A′ C′ (w .left) m) (ap (λ (o : Left Told). o .reply) e)
     where
-      go : (y : Found F.Refusal) (z : Next) → unless y m (nextLeft A′ m w z) .reply ≡ done (H.ended x s)
+      go : (y : Found F.Refusal) (z : Next) → leftUnless y m (nextLeft A′ m w z) .reply ≡ done (H.ended x s)
           → (y ≡ clear) × (z ≡ ended x) × (s ≡ w .allowed - w .left)
       go (hit r) z q = let b : true ≡ false = cc in absurd (true≢false b)
       go clear (ended v) q = let b : v ≡ x = cc in let d : w .allowed - w .left ≡ s = cc in (refl, ap ended b, sym d)
@@ -201,7 +203,7 @@ module _ (f choices : List ℕ) where
   unfolding strideOf nextLeft
   stride-then m w t ts ms e = go (lentRefusal f choices m) (nextIn A′ C′ (w .left) m) e
     where
-      go : (v : Found F.Refusal) (z : Next) → unless v m (nextLeft A′ m w z) ≡ left (done (turned t)) ts ms
+      go : (v : Found F.Refusal) (z : Next) → leftUnless v m (nextLeft A′ m w z) ≡ left (done (turned t)) ts ms
           → (v ≡ clear) × (u : Attempt) × (z ≡ moved u (lentOf ts ms (t .counts))) × (t .allowance ≡ record { allowed = w .allowed; left = w .left - 1 })
       go (hit o) z e = let g = ap (λ (o : Left Told). o .reply) e in let b : true ≡ false = cc in absurd (true≢false b)
       go clear (ended x) e = let g = ap (λ (o : Left Told). o .reply) e in let b : true ≡ false = cc in absurd (true≢false b)
@@ -360,7 +362,7 @@ module _ (f choices : List ℕ) (t : Trailer) (ok : (startRefusal f choices ≡ 
         ap (λ (y : Reply Counts). left y l′ ml′) q
         ∙ result-left countsIn m (checkedStep a m u) e l′ ml′ (subst (λ (y : Array). FiredAs m (checkedStep y m u) e l′ ml′) same h)
         ∙ sym (step-checked countsIn a m u)
-        ∙ ap (λ (y : Found F.Refusal). unless y m (resultLeft countsIn m (stepIn a m u))) (sym (lent-is m)) in
+        ∙ ap (λ (y : Found F.Refusal). leftUnless y m (resultLeft countsIn m (stepIn a m u))) (sym (lent-is m)) in
         record {
           leaves = o;
           follows = λ c. step-follows a wf m (lent-sound m c) u;
@@ -455,7 +457,7 @@ stride-less f choices m w x l ml p t q =
   where
     go : (x : Found F.Refusal) → lentRefusal f choices m ≡ x → (y : Next)
         → (lentRefusal f choices m ≡ clear → Tells (arrayIn f) (choicesOf choices) (w .left) m y)
-        → saysStride (StrideA.Made t) ≡ unless x m (nextLeft (arrayIn f) m w y) .reply → t .allowance .left < w .left
+        → saysStride (StrideA.Made t) ≡ leftUnless x m (nextLeft (arrayIn f) m w y) .reply → t .allowance .left < w .left
     go (hit r) c y h e = let z : true ≡ false = cc in absurd (true≢false z)
     go clear c (ended x) h e = let z : true ≡ false = cc in absurd (true≢false z)
     go clear c (moved u n) h e = let z : t .allowance .left ≡ w .left - 1 = ap (λ (x : Turn). x .allowance .left) (told-inj t _ e) in omega (arith, z, h c .0)

@@ -21,7 +21,7 @@ use Rattle.records.specs.declared.Trailer.{Trailer}
 use Rattle.records.specs.Record.{arrayOf}
 use Rattle.arrays.specs.declared.ArrayAnswer.{ArrayAnswer}
 use Rattle.arrays.specs.declared.ArrayAnswer.the-variants as A
-use Rattle.arrays.specs.File.{trailerOf, arrayRefusal, answer, readArray, IsRead}
+use Rattle.arrays.specs.File.{trailerOf, arrayRefusal, trailerAnswer, readArray, IsRead}
 use Rattle.arrays.proofs.Laws.{read-passes, read-refuses, read-is}
 use Rattle.layout.specs.declared.Sizes.{Sizes}
 use Rattle.layout.specs.Table.{claimAt, sizesOf, tableOf, refusal21, IsTable}
@@ -47,7 +47,7 @@ reply-listed : {A : Type 0} (P : ℕ → Type 0) (x : Found F.Refusal) (a : A) �
 reply-listed P clear a s n p e = let z : true ≡ false = cc in absurd (true≢false z)
 reply-listed P (hit r) a s n p e = let z : r .number ≡ n = cc in subst P z (s r refl .0)
 
-array-says : (x : Found F.Refusal) (t : Trailer) → saysArray (answer x t) ≡ unlessRefused x t
+array-says : (x : Found F.Refusal) (t : Trailer) → saysArray (trailerAnswer x t) ≡ unlessRefused x t
 array-says clear t = refl
 array-says (hit r) t = refl
 
@@ -57,7 +57,7 @@ array-promise f x e =
     let a : saysArray x ≡ arrayRead f = ap saysArray e ∙ array-says (arrayRefusal f) (trailerOf f) in
     record { answers = a; listed = λ n p q. reply-listed ArrayNumber (arrayRefusal f) _ (array-small f) n p (sym a ∙ q) }
 
-table-says : (x : Found F.Refusal) (z : Sizes) → saysTable (T.answer x z) ≡ unlessRefused x z
+table-says : (x : Found F.Refusal) (z : Sizes) → saysTable (T.sizesAnswer x z) ≡ unlessRefused x z
 table-says clear z = refl
 table-says (hit r) z = refl
 

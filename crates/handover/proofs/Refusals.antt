@@ -20,7 +20,7 @@ use Rattle.records.specs.declared.Trailer.{Trailer}
 use Rattle.records.specs.Record.{arrayOf}
 use Rattle.fields.specs.Fields.{refusal6, refusal7}
 use Rattle.arrays.specs.declared.ArrayAnswer.the-variants as A
-use Rattle.arrays.specs.File.{trailerOf, arrayRefusal, refusal1, refusal2, refusal3, refusal4, refusal5, from6, readArray, answer, IsRead}
+use Rattle.arrays.specs.File.{trailerOf, arrayRefusal, refusal1, refusal2, refusal3, refusal4, refusal5, from6, readArray, trailerAnswer, IsRead}
 use Rattle.arrays.proofs.Laws.{read-is, counts-fit}
 use Rattle.layout.specs.Table.{sizesOf, refusal13, refusal14, refusal15, refusal16, refusal17, refusal18, refusal19, refusal20, refusal21}
 use Rattle.tables.specs.Read.{tableRefusal, filesRefusal}
@@ -31,7 +31,7 @@ use Rattle.handover.specs.Refusals.{ArrayNumber, TableNumber, StartNumbe
 
 pub reads : (f : List ℕ) → arrayRefusal f ≡ clear → readArray f ≡ A.Read (trailerOf f)
 unfolding readArray
-reads f c = ap (λ (y : Found F.Refusal). answer y (trailerOf f)) c
+reads f c = ap (λ (y : Found F.Refusal). trailerAnswer y (trailerOf f)) c
 
 pub read-array : (f : List ℕ) → arrayRefusal f ≡ clear → IsRead f (trailerOf f)
 read-array f c = read-is f (trailerOf f) (reads f c)

@@ -73,9 +73,9 @@ module _ {A : Type 0} where
   unchanged r m = left r (m .threads) (m .markers)
 
   -- the first refusal of 1 to 12, 22 and, for step, walk and stride, 23; else what the call does
-  abbrev pub unless : Found F.Refusal → Memory → Left A → Left A
-  unless clear m x = x
-  unless (hit r) m x = unchanged (refused (r .number) (r .place)) m
+  abbrev pub leftUnless : Found F.Refusal → Memory → Left A → Left A
+  leftUnless clear m x = x
+  leftUnless (hit r) m x = unchanged (refused (r .number) (r .place)) m
 
   -- a start or a step, of which f is told
   abbrev pub resultLeft : (Memory → A) → Memory → Result → Left A
@@ -96,13 +96,13 @@ abbrev pub lentRefusal : List ℕ → List ℕ → Memory → Found F.Refusal
 lentRefusal f choices m = andThen (startRefusal f choices) (refusal23 (arrayIn f) m)
 
 unfoldable pub startOf : List ℕ → List ℕ → Memory → Left ℕ
-startOf f choices m = unless (startRefusal f choices) m (resultLeft (λ n. n .threadCount) m (startIn (arrayIn f) (choicesOf choices) m))
+startOf f choices m = leftUnless (startRefusal f choices) m (resultLeft (λ n. n .threadCount) m (startIn (arrayIn f) (choicesOf choices) m))
 
 unfoldable pub stepOf : List ℕ → List ℕ → Memory → ℕ → ℕ → Left Counts
-stepOf f choices m r s = unless (lentRefusal f choices m) m (resultLeft countsIn m (stepIn (arrayIn f) m (try (choicesOf choices) r s)))
+stepOf f choices m r s = leftUnless (lentRefusal f choices m) m (resultLeft countsIn m (stepIn (arrayIn f) m (try (choicesOf choices) r s)))
 
 unfoldable pub walkOf : List ℕ → List ℕ → Memory → ℕ → Left Walk
-walkOf f choices m allowed = unless (lentRefusal f choices m) m (walkLeft (walkIn (arrayIn f) (choicesOf choices) allowed m))
+walkOf f choices m allowed = leftUnless (lentRefusal f choices m) m (walkLeft (walkIn (arrayIn f) (choicesOf choices) allowed m))
 
 -- the walk's next step, told: the two agents of the pair, the marker number, the counts after it, and one step less left; or its ending, with
 -- the steps made before it, which are those allowed less those left
@@ -119,7 +119,7 @@ nextLeft a m w (moved u n) =
     left (done (turned told)) (n .threads) (n .markers)
 
 unfoldable pub strideOf : List ℕ → List ℕ → Memory → Allowance → Left Told
-strideOf f choices m w = unless (lentRefusal f choices m) m (nextLeft (arrayIn f) m w (nextIn (arrayIn f) (choicesOf choices) (w .left) m))
+strideOf f choices m w = leftUnless (lentRefusal f choices m) m (nextLeft (arrayIn f) m w (nextIn (arrayIn f) (choicesOf choices) (w .left) m))
 
 -- a walk followed to its end by strides, each lent the lists, the counts and the allowance that the last one left: the number of steps told,
 -- then the ending, the steps made as they are told with it, and the lists

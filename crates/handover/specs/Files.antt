@@ -276,8 +276,8 @@ pub record Ended : Type 0 where
   pub allowed : ℕ
   pub walk : Walk
 
-abbrev pub ended : List ℕ → Memory → ℕ → Walk → Ended
-ended f m k w = record { array = f; lent = m; allowed = k; walk = w }
+abbrev pub walkCase : List ℕ → Memory → ℕ → Walk → Ended
+walkCase f m k w = record { array = f; lent = m; allowed = k; walk = w }
 
 abbrev pub Answers : Ended → Type 0
 Answers c = (x : WalkAnswer) (l ml : List ℕ) → WalkPromise (c .array) toLeft (c .lent) (c .allowed) x l ml → x ≡ Walked (c .walk)
@@ -285,11 +285,11 @@ Answers c = (x : WalkAnswer) (l ml : List ℕ) → WalkPromise (c .array) toLeft
 abbrev pub endings : List Ended
 endings =
     -- A: quiet after its step
-    ended (pis 3 nodesA) startedA 5 record { ending = Quiet; steps = 1; counts = counts 1 0 }
+    walkCase (pis 3 nodesA) startedA 5 record { ending = Quiet; steps = 1; counts = counts 1 0 }
     -- "B with 2 steps allowed: spent"
-    ∷ ended (pis 1 nodesB) (startedB (replicate 8 9)) 2 record { ending = Spent; steps = 2; counts = counts 2 2 }
+    ∷ walkCase (pis 1 nodesB) (startedB (replicate 8 9)) 2 record { ending = Spent; steps = 2; counts = counts 2 2 }
     -- B without room for a marker: full
-    ∷ ended (pis 1 nodesB) (startedB []) 2 record { ending = Full; steps = 0; counts = counts 2 0 }
+    ∷ walkCase (pis 1 nodesB) (startedB []) 2 record { ending = Full; steps = 0; counts = counts 2 0 }
     ∷ []
 
 -- ---- numbers that the entries do not refuse by: those next to the listed ones

@@ -21,7 +21,7 @@ ghost use mathlib.Core.Path.{_≡_};
 ghost use mathlib.Core.List.{[]};
 ghost use Prim.Native.Nat.{_-_};
 ghost use Rattle.model.specs.Memory.{memory};
-ghost use Rattle.arrays.specs.File.{remarkOf, trailerOf, answer};
+ghost use Rattle.arrays.specs.File.{remarkOf, trailerOf, trailerAnswer};
 ghost use Rattle.handover.specs.Front.{ArrayPromise, TablePromise, Judges};
 ghost use Rattle.handover.specs.Engine.{startRefusal, StartPromise, StepPromise, WalkPromise, StridePromise};
 ghost use Rattle.handover.specs.Bodies.{verdictOf, strideAnswer};
@@ -137,7 +137,7 @@ fn numbered(number: u8) -> Refusal
 
 // What the array's trailer says, or refusals 1 to 12 and 22.
 fn admit(array: &[u8], choices: &[u8]) -> ArrayAnswer
-    ensures { λ r. ⌜ r ≡ answer (startRefusal (now (array .entry)) (now (choices .entry))) (trailerOf (now (array .entry))) ⌝ }
+    ensures { λ r. ⌜ r ≡ trailerAnswer (startRefusal (now (array .entry)) (now (choices .entry))) (trailerOf (now (array .entry))) ⌝ }
 {
     match arrays::read_array(array) {
         ArrayAnswer::Refused(r) => ArrayAnswer::Refused(r),

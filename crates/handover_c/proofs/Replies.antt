@@ -21,7 +21,7 @@ use Rattle.handover.specs.declared.StartAnswer.{StartAnswer}
 use Rattle.handover.specs.declared.StepAnswer.{StepAnswer}
 use Rattle.handover.specs.declared.WalkAnswer.{WalkAnswer}
 use Rattle.handover.specs.Front.{arrayIn}
-use Rattle.handover.specs.Engine.{Left, left, unless, resultLeft, countsIn, startRefusal, lentRefusal, startOf, stepOf, walkOf}
+use Rattle.handover.specs.Engine.{Left, left, leftUnless, resultLeft, countsIn, startRefusal, lentRefusal, startOf, stepOf, walkOf}
 use Rattle.handover.specs.Engine.{saysStart, saysStep, saysWalk, StartPromise, StepPromise, WalkPromise}
 use Rattle.handover_c.specs.Packed.{packedReply, packedStart, packedStep, packedWalk, FitsCounts, FitsReply, FitsStart, FitsStep, FitsWalk}
 use Rattle.handover_c.specs.Packed.{Leaves, StartsInC, StepsInC, WalksInC}
@@ -87,7 +87,7 @@ walk-steps a ch (suc k) m = go (λ n. walk-steps a ch k n) (firstReady (words (e
 -- ---- what an entry leaves
 
 module _ {A : Type 0} (Q : A → Type 0) (P : ℕ → Type 0) where
-  unrefused : (x : Found F.Refusal) (m : Memory) (o : Left A) → Small P x → (x ≡ clear → FitsReply Q P (o .reply)) → FitsReply Q P (unless x m o .reply)
+  unrefused : (x : Found F.Refusal) (m : Memory) (o : Left A) → Small P x → (x ≡ clear → FitsReply Q P (o .reply)) → FitsReply Q P (leftUnless x m o .reply)
   unrefused clear m o h k = k refl
   unrefused (hit r) m o h k = h r refl
 

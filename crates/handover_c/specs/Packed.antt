@@ -19,8 +19,8 @@ use Rattle.handover.specs.Engine.{Left, startOf, stepOf, walkOf, StartPromise, 
 -- ---- the numbers
 
 -- "plus 2^8, 2^24 and 2^40 times the place's first, second and third figure"; a figure that there is not is 0
-abbrev pub placed : List ℕ → ℕ
-placed figures = 2 ^ 8 * getD figures 0 0 + 2 ^ 24 * getD figures 1 0 + 2 ^ 40 * getD figures 2 0
+abbrev pub packedPlace : List ℕ → ℕ
+packedPlace figures = 2 ^ 8 * getD figures 0 0 + 2 ^ 24 * getD figures 1 0 + 2 ^ 40 * getD figures 2 0
 
 -- a refusal's number and place: "100 + the refusal's", and "after a refusal 2^8 times the place alone"
 abbrev pub denied : ℕ → ℕ → ℕ
@@ -44,7 +44,7 @@ packedReply f (refused n p) = denied n p
 -- "0 for held, else the rule's number"
 abbrev pub packedOutcome : Outcome → ℕ
 packedOutcome (held z) = 0
-packedOutcome (rule r figures) = r + placed figures
+packedOutcome (rule r figures) = r + packedPlace figures
 
 -- a start lists no marker and makes no step; a step makes one; a walk tells how many
 abbrev pub packedStart : ℕ → ℕ

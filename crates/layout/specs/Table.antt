@@ -24,8 +24,8 @@ abbrev pub pic1 : ℕ
 pic1 = 80 + 256 * 73 + 65536 * 67 + 16777216 * 49
 
 -- the format that the letters name; 0 stands for none
-abbrev pub formOf : ℕ → ℕ
-formOf letters = cond (eqb letters pic1) 1 0
+abbrev pub tableForm : ℕ → ℕ
+tableForm letters = cond (eqb letters pic1) 1 0
 
 -- what a format says: "rows of 32 bytes", "K of them, at most 24"
 abbrev pub rowSize : ℕ → ℕ
@@ -54,7 +54,7 @@ sizesOf t s = record {
   names = t .names;
   balances = u16At s (length s - 16);
   claims = u16At s (length s - 14);
-  form = formOf (u32At s (length s - 4));
+  form = tableForm (u32At s (length s - 4));
 }
 
 -- ---- the table that the bytes stand for
@@ -78,22 +78,22 @@ tableOf s z = record {
 -- ---- the refusals
 
 -- "13. The table is shorter than 28 bytes, longer than 59,516, or no multiple of 4."
-abbrev pub lengthFits : List ℕ → Bool
-lengthFits s = leb 28 (length s) && leb (length s) 59516 && eqb (length s % 4) 0
+abbrev pub tableLengthFits : List ℕ → Bool
+tableLengthFits s = leb 28 (length s) && leb (length s) 59516 && eqb (length s % 4) 0
 
 abbrev pub refusal13 : List ℕ → Found F.Refusal
-refusal13 s = refuse 13 0 (lengthFits s)
+refusal13 s = refuse 13 0 (tableLengthFits s)
 
 -- "14. Its letters are wrong."
 abbrev pub refusal14 : Sizes → Found F.Refusal
 refusal14 z = refuse 14 0 (eqb (z .form) 1)
 
 -- "15. K is above 24 or Q above 256."
-abbrev pub countsFit : Sizes → Bool
-countsFit z = leb (z .balances) (mostBalances (z .form)) && leb (z .claims) 256
+abbrev pub tableCountsFit : Sizes → Bool
+tableCountsFit z = leb (z .balances) (mostBalances (z .form)) && leb (z .claims) 256
 
 abbrev pub refusal15 : Sizes → Found F.Refusal
-refusal15 z = refuse 15 0 (countsFit z)
+refusal15 z = refuse 15 0 (tableCountsFit z)
 
 -- "16. Rows don't start at 0, balances or claims don't start where the part before ends, or the trailer doesn't follow the
 -- claims to the file's end."

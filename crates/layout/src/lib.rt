@@ -3,7 +3,7 @@
 ghost use mathlib.Core.Path.{_≡_};
 ghost use Prim.Native.Nat.{_≤_};
 ghost use lib.ListN.{length};
-ghost use Rattle.layout.specs.Table.{formOf, rowSize, mostBalances, sizesOf, balanceSize, balanceAt, claimAt};
+ghost use Rattle.layout.specs.Table.{tableForm, rowSize, mostBalances, sizesOf, balanceSize, balanceAt, claimAt};
 use records::Trailer;
 
 // M, N, K and Q, and which format the letters name: 1 for `PIC1`, 0 for letters that are none.
@@ -16,8 +16,8 @@ pub struct Sizes {
 }
 
 // The format that the letters name.
-fn form_of(letters: u32) -> usize
-    ensures { λ n. ⌜ n ≡ formOf letters ⌝ }
+fn table_form(letters: u32) -> usize
+    ensures { λ n. ⌜ n ≡ tableForm letters ⌝ }
 {
     if letters == 826493264 {
         return 1;
@@ -50,7 +50,7 @@ pub fn read_sizes(t: Trailer, table: &[u8]) -> Sizes
         names: t.names,
         balances: wire::u16_at(table, len - 16),
         claims: wire::u16_at(table, len - 14),
-        form: form_of(wire::u32_at(table, len - 4)),
+        form: table_form(wire::u32_at(table, len - 4)),
     }
 }
 

@@ -32,8 +32,9 @@ pub fn markers_fit(markers: &[u16], count: usize) -> bool
     (count <= 4096) & (count <= markers.len() / 4)
 }
 
-// The lent configuration is well formed: both counts fit the lists, and so do the threads and the marker entries.
-pub fn well_formed(
+// The lent configuration is well formed, by the free names of all nodes: both counts fit the lists, and so do the threads and the marker
+// entries.
+fn well_formed(
     file: &[u8],
     t: Trailer,
     frees: &[u64],
@@ -57,4 +58,21 @@ pub fn well_formed(
         return false;
     }
     markers::entries_formed(file, t, markers, listed)
+}
+
+// Refusal 23: whether the lent configuration is well formed. The free names of all nodes are worked out for it, into `frees`.
+pub fn lists_formed(
+    frees: &mut [u64],
+    file: &[u8],
+    t: Trailer,
+    threads: &[u32],
+    markers: &[u16],
+    counts: Counts,
+) -> bool
+    requires { ⌜ IsRead (now file) t × (length (now frees) ≡ 4096) ⌝ }
+    ensures { λ b. ⌜ AllFree (now (frees .exit)) (arrayOf (now (file .entry)) t)
+        × (b ≡ formed (arrayOf (now (file .entry)) t) (lentOf (now (threads .entry)) (now (markers .entry)) counts)) ⌝ }
+{
+    frees::fill_frees(frees, file, t);
+    well_formed(file, t, frees, threads, markers, counts)
 }

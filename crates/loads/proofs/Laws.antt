@@ -22,7 +22,7 @@ use Rattle.records.specs.Record.{recordOf, nodeOf, arrayOf}
 use Rattle.records.specs.Kinds.{isStop, isNewNode, isPar, isChoice}
 use Rattle.records.proofs.Laws.{node-read, child-of}
 use Rattle.records.proofs.KindLaws.{by-node}
-use Rattle.loads.specs.Loads.{entryOf, loadIn, Half, loadFrom, FilledFrom}
+use Rattle.loads.specs.Loads.{entryIndex, loadIn, Half, loadFrom, FilledFrom}
 
 -- two loads of a node's children that agree give the node one load
 load-agree : (v w : ℕ → ℕ) (i j : ℕ) (f g : ℕ → ℕ) (n : Node) → v i ≡ w j
@@ -66,19 +66,19 @@ abbrev pub RowTo : List ℕ → List ℕ → Record → (ℕ → ℕ) → ℕ �
 RowTo before after r w i n = (k : ℕ) → k < n → loadIn after i k ≡ loadFrom before r k (w k)
 
 -- entry k of row i is written
-module _ (before after : List ℕ) (i k : ℕ) (few : k < 24) (fits : entryOf i k < length after) (above : SameAbove before after i) (v : ℕ) where
-  pub above-set : SameAbove before (set after (entryOf i k) v) i
-  above-set j m l h = getD-set-other after (entryOf i k) (entryOf j m) v 0 (λ e. omega arith) ∙ above j m l h
+module _ (before after : List ℕ) (i k : ℕ) (few : k < 24) (fits : entryIndex i k < length after) (above : SameAbove before after i) (v : ℕ) where
+  pub above-set : SameAbove before (set after (entryIndex i k) v) i
+  above-set j m l h = getD-set-other after (entryIndex i k) (entryIndex j m) v 0 (λ e. omega arith) ∙ above j m l h
 
   pub row-set : (r : Record) (w : ℕ → ℕ) → ((c : ℕ) → has (children (nodeOf r)) c ≡ true → i < c) → v ≡ loadFrom after r k (w k)
-      → RowTo before after r w i k → RowTo before (set after (entryOf i k) v) r w i (k + 1)
+      → RowTo before after r w i k → RowTo before (set after (entryIndex i k) v) r w i (k + 1)
   row-set r w kids e row m h =
       ⊎-elim
       (λ (q : m ≡ k).
       rw q
-      (getD-set-same after (entryOf i k) v 0 fits ∙ e
+      (getD-set-same after (entryIndex i k) v 0 fits ∙ e
       ∙ load-agree (λ j. w k) (λ j. w k) 0 0 _ (λ c. loadIn before c k) (nodeOf r) refl (λ c g. above c k (kids c g) few)))
-      (λ (l : m < k). getD-set-other after (entryOf i k) (entryOf i m) v 0 (λ e. omega arith) ∙ row m l)
+      (λ (l : m < k). getD-set-other after (entryIndex i k) (entryIndex i m) v 0 (λ e. omega arith) ∙ row m l)
       (eq-or-lt-of-le (omega arith))
 
 -- ---- the loads of the process tree

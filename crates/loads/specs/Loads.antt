@@ -9,15 +9,15 @@ use Rattle.model.specs.Rules.{Table}
 use Rattle.records.specs.declared.Record.{Record}
 use Rattle.records.specs.Record.{nodeOf}
 
-abbrev pub entryOf : ℕ → ℕ → ℕ
-entryOf i k = 24 * i + k
+abbrev pub entryIndex : ℕ → ℕ → ℕ
+entryIndex i k = 24 * i + k
 
 abbrev pub loadIn : List ℕ → ℕ → ℕ → ℕ
-loadIn loads i k = getD loads (entryOf i k) 0
+loadIn loads i k = getD loads (entryIndex i k) 0
 
 -- an entry is there, and the sum of two such entries fits 32 bits
 abbrev pub Half : List ℕ → ℕ → ℕ → Type 0
-Half loads i k = (entryOf i k < length loads) × (loadIn loads i k < 2147483648)
+Half loads i k = (entryIndex i k < length loads) × (loadIn loads i k < 2147483648)
 
 -- the load in balance k of the node that a record stands for, from its weight and the entries of its children
 abbrev pub loadFrom : List ℕ → Record → ℕ → ℕ → ℕ

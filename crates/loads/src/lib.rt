@@ -8,15 +8,15 @@ ghost use Rattle.laws.specs.Lists.{has};
 ghost use Rattle.model.specs.Formed.{children, WellFormed};
 ghost use Rattle.records.specs.Record.{nodeOf, arrayOf, RecordsFit};
 ghost use Rattle.layout.specs.Table.{tableOf, Laid};
-ghost use Rattle.loads.specs.Loads.{entryOf, loadIn, Half, loadFrom, FilledFrom, AllLoads};
+ghost use Rattle.loads.specs.Loads.{entryIndex, loadIn, Half, loadFrom, FilledFrom, AllLoads};
 use layout::Sizes;
 use records::Record;
 use records::Trailer;
 
 // The entry of node i in balance k.
 fn entry(i: usize, k: usize) -> usize
-    requires { ⌜ entryOf i k < 18446744073709551616 ⌝ }
-    ensures { λ n. ⌜ n ≡ entryOf i k ⌝ }
+    requires { ⌜ entryIndex i k < 18446744073709551616 ⌝ }
+    ensures { λ n. ⌜ n ≡ entryIndex i k ⌝ }
 {
     24 * i + k
 }

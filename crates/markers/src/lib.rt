@@ -10,7 +10,6 @@ ghost use Rattle.laws.specs.Search.{every};
 ghost use Rattle.laws.specs.Lists.{put};
 ghost use Rattle.model.specs.Numbers.{sameEntry, position};
 ghost use Rattle.model.specs.Memory.{entryIn, entriesIn, entryNumbers, entryFormed, unlike};
-ghost use Rattle.marks.specs.Marks.{marked, markIf};
 ghost use Rattle.records.specs.Record.{RecordsFit, arrayOf};
 ghost use Rattle.markers.specs.Markers.{entryOf, slotOf, Seen, listed, entriesFormed};
 use records::Trailer;
@@ -100,29 +99,13 @@ fn entry_formed(file: &[u8], t: Trailer, k: usize, e: Entry) -> bool
     records::is_resource(resource) & (records::sends(out) & below)
 }
 
-// The mark of a place.
-fn is_seen(seen: &[u64], slot: usize) -> bool
-    requires { ⌜ (length (now seen) ≡ 4096) × (slot < 262144) ⌝ }
-    ensures { λ b. ⌜ b ≡ marked (now (seen .entry)) 0 slot ⌝ }
-{
-    (seen[slot / 64] >> (slot % 64)) % 2 == 1
-}
-
-// Marks a place.
-fn see(seen: &mut [u64], slot: usize)
-    requires { ⌜ (length (now seen) ≡ 4096) × (slot < 262144) ⌝ }
-    ensures { λ _. ⌜ now (seen .exit) ≡ markIf (now (seen .entry)) true slot ⌝ }
-{
-    seen[slot / 64] = seen[slot / 64] | (1 << (slot % 64));
-}
-
 // One of the first k entries equals e, whose place is `slot`: none does where no entry has marked that place.
 fn is_listed(seen: &[u64], slot: usize, markers: &[u16], k: usize, e: Entry) -> bool
     requires { ⌜ (length (now seen) ≡ 4096) × (slot < 262144) × (slot ≡ slotOf (entryOf e)) ⌝ }
     requires { ⌜ (4 * k ≤ length (now markers)) × Seen (now seen) (now markers) k ⌝ }
     ensures { λ b. ⌜ b ≡ listed (now (markers .entry)) k (entryOf e) ⌝ }
 {
-    if is_seen(seen, slot) {
+    if marks::is_marked(seen, 0, slot) {
         return find_entry(markers, k, e) < k;
     }
     false
@@ -141,7 +124,7 @@ fn entries_unlike(markers: &[u16], count: usize) -> bool
         if is_listed(&seen, slot, markers, k, e) {
             return false;
         }
-        see(&mut seen, slot);
+        marks::mark_if(&mut seen, true, slot);
         k += 1;
     }
     true

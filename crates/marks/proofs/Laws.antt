@@ -1,6 +1,6 @@
 -- What a row holds after a mark, two rows word by word, and the rows of a file.
 use Prim.Native.Nat.{ℕ, _+_, _*_, _/_, _%_, _^_, _≤_, _<_}
-use native.Mathlib.Nat.{zero-add, add-zero}
+use native.Mathlib.Nat.{zero-add}
 use native.Mathlib.Omega.{arith}
 use mathlib.Core.Path.{_≡_, refl, sym, ap, ap₂, _∙_}
 use mathlib.Core.Logic.{_⊎_, inl, inr}
@@ -17,7 +17,7 @@ use Rattle.laws.proofs.Lists.{getD-set, getD-zeros}
 use Rattle.laws.proofs.Bits.{bit-zero, bit-pow, bit-or}
 use Rattle.wire.specs.Numbers.{u64At}
 use Rattle.wire.proofs.Laws.{bit-u64}
-use Rattle.marks.specs.Marks.{marked, markIf, wordsShare, wordInside, share, inside}
+use Rattle.marks.specs.Marks.{wordAt, marked, markIf, wordsShare, wordInside, share, inside}
 
 -- two names in the same word of a row
 same-place : (u v : ℕ) → u / 64 ≡ v / 64 → eqb (u % 64) (v % 64) ≡ eqb u v
@@ -31,9 +31,9 @@ unfolding markIf
 markIf-length row true v = length-set row _ _
 markIf-length row false v = refl
 
-pub marked-none : (n at v : ℕ) → marked (replicate n 0) at v ≡ false
+pub marked-none : (n u v : ℕ) → marked (replicate n 0) u v ≡ false
 unfolding marked
-marked-none n at v = ap (λ (x : ℕ). bit x (v % 64)) (getD-zeros n (at + v / 64)) ∙ bit-zero (v % 64)
+marked-none n u v = ap (λ (x : ℕ). bit x (v % 64)) (getD-zeros n (wordAt u (v / 64))) ∙ bit-zero (v % 64)
 
 -- a row of four words has no mark at 256 or above
 pub marked-past : (row : List ℕ) (o : ℕ) → length row ≡ 4 → 256 ≤ o → marked row 0 o ≡ false
@@ -77,37 +77,32 @@ every-four f = refl
 -- ---- two rows, word by word
 
 -- the names of word j of a row
-marked-word : (t : List ℕ) (u j k : ℕ) → k < 64 → marked t u (64 * j + k) ≡ bit (getD t (u + j) 0) k
+marked-word : (t : List ℕ) (u j k : ℕ) → k < 64 → marked t u (64 * j + k) ≡ bit (getD t (wordAt u j) 0) k
 unfolding marked
 marked-word t u j k h =
     let q : (64 * j + k) / 64 ≡ j = omega arith in
     let r : (64 * j + k) % 64 ≡ k = omega arith in
-    ap₂ (λ (m n : ℕ). bit (getD t (u + m) 0) n) q r
+    ap₂ (λ (m n : ℕ). bit (getD t (wordAt u m) 0) n) q r
 
-pub share-words : (t : List ℕ) (u v : ℕ)
-    → share t u v ≡ wordsShare t u v || wordsShare t (u + 1) (v + 1) || wordsShare t (u + 2) (v + 2) || wordsShare t (u + 3) (v + 3)
+pub share-words : (t : List ℕ) (u v : ℕ) → share t u v ≡ wordsShare t u v 0 || wordsShare t u v 1 || wordsShare t u v 2 || wordsShare t u v 3
 unfolding share wordsShare
 share-words t u v =
     any-blocks 64 4 (λ o. marked t u o && marked t v o)
-    ∙ any-same 4 _ (λ j. wordsShare t (u + j) (v + j)) (λ j h. any-same 64 _ _ (λ k l. ap₂ _&&_ (marked-word t u j k l) (marked-word t v j k l)))
-    ∙ any-four (λ j. wordsShare t (u + j) (v + j))
-    ∙ ap₂ (λ (m n : ℕ). wordsShare t m n || wordsShare t (u + 1) (v + 1) || wordsShare t (u + 2) (v + 2) || wordsShare t (u + 3) (v + 3))
-    (add-zero u) (add-zero v)
+    ∙ any-same 4 _ (wordsShare t u v) (λ j h. any-same 64 _ _ (λ k l. ap₂ _&&_ (marked-word t u j k l) (marked-word t v j k l)))
+    ∙ any-four (wordsShare t u v)
 
 pub inside-words : (s : List ℕ) (u : ℕ) (t : List ℕ) (v : ℕ)
-    → inside s u t v ≡ wordInside s u t v && wordInside s (u + 1) t (v + 1) && wordInside s (u + 2) t (v + 2) && wordInside s (u + 3) t (v + 3)
+    → inside s u t v ≡ wordInside s u t v 0 && wordInside s u t v 1 && wordInside s u t v 2 && wordInside s u t v 3
 unfolding inside wordInside
 inside-words s u t v =
     every-blocks 64 4 (λ o. not (marked s u o) || marked t v o)
-    ∙ every-same 4 _ (λ j. wordInside s (u + j) t (v + j))
+    ∙ every-same 4 _ (wordInside s u t v)
     (λ j h. every-same 64 _ _ (λ k l. ap₂ (λ (a b : Bool). not a || b) (marked-word s u j k l) (marked-word t v j k l)))
-    ∙ every-four (λ j. wordInside s (u + j) t (v + j))
-    ∙ ap₂ (λ (m n : ℕ). wordInside s m t n && wordInside s (u + 1) t (v + 1) && wordInside s (u + 2) t (v + 2) && wordInside s (u + 3) t (v + 3))
-    (add-zero u) (add-zero v)
+    ∙ every-four (wordInside s u t v)
 
 -- ---- rows that hold the 64-bit numbers of a file: a mark is a bit of the file
 pub marked-bytes : (s rows : List ℕ) (n : ℕ) → ((k : ℕ) → getD s k 0 < 256) → ((i : ℕ) → i < 4 * n → getD rows i 0 ≡ u64At s (8 * i))
-    → (v o : ℕ) → v < n → o < 256 → marked rows (4 * v) o ≡ bit (getD s (32 * v + o / 8) 0) (o % 8)
+    → (v o : ℕ) → v < n → o < 256 → marked rows v o ≡ bit (getD s (32 * v + o / 8) 0) (o % 8)
 unfolding marked
 marked-bytes s rows n byte word v o h l =
     let q : 8 * (4 * v + o / 64) + o % 64 / 8 ≡ 32 * v + o / 8 = omega arith in

@@ -1,27 +1,35 @@
 -- Rows of marks: one bit for each of 256 names, 64 to a word, four words to a row.
-use Prim.Native.Nat.{ℕ, _+_, _/_, _%_, _^_}
+use Prim.Native.Nat.{ℕ, _+_, _*_, _/_, _%_, _^_, _<_}
 use mathlib.Core.Bool.{Bool, true, false, not, _&&_, _||_}
 use mathlib.Core.List.{List}
 use lib.Bits.{bitOr}
-use lib.ListN.{getD, set}
+use lib.ListN.{length, getD, set}
 use Rattle.laws.specs.Search.{any, every}
 use Rattle.laws.specs.Bits.{bit}
 
--- name v is marked in the row that starts at word `at`
-unfoldable pub marked : List ℕ → ℕ → ℕ → Bool
-marked table at v = bit (getD table (at + v / 64) 0) (v % 64)
+-- where word w of row u stands in a table
+abbrev pub wordAt : ℕ → ℕ → ℕ
+wordAt u w = 4 * u + w
 
--- a row with one name more where the test is true
+-- a table has row u
+abbrev pub HasRow : List ℕ → ℕ → Type 0
+HasRow table u = wordAt u 3 < length table
+
+-- name v is marked in row u
+unfoldable pub marked : List ℕ → ℕ → ℕ → Bool
+marked table u v = bit (getD table (wordAt u (v / 64)) 0) (v % 64)
+
+-- row 0 with one name more where the test is true
 unfoldable pub markIf : List ℕ → Bool → ℕ → List ℕ
 markIf row true v = set row (v / 64) (bitOr (getD row (v / 64) 0) (2 ^ (v % 64)))
 markIf row false v = row
 
--- a word has a bit in common with another; every bit of a word is a bit of another
-unfoldable pub wordsShare : List ℕ → ℕ → ℕ → Bool
-wordsShare table u v = any 64 λ k. bit (getD table u 0) k && bit (getD table v 0) k
+-- word w of two rows: they have a bit in common; every bit of the first is a bit of the second
+unfoldable pub wordsShare : List ℕ → ℕ → ℕ → ℕ → Bool
+wordsShare table u v w = any 64 λ k. bit (getD table (wordAt u w) 0) k && bit (getD table (wordAt v w) 0) k
 
-unfoldable pub wordInside : List ℕ → ℕ → List ℕ → ℕ → Bool
-wordInside s u t v = every 64 λ k. not (bit (getD s u 0) k) || bit (getD t v 0) k
+unfoldable pub wordInside : List ℕ → ℕ → List ℕ → ℕ → ℕ → Bool
+wordInside s u t v w = every 64 λ k. not (bit (getD s (wordAt u w) 0) k) || bit (getD t (wordAt v w) 0) k
 
 -- some name is marked in both rows; every name marked in the first row is marked in the second
 unfoldable pub share : List ℕ → ℕ → ℕ → Bool

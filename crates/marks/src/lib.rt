@@ -1,21 +1,37 @@
-// Rows of 256 marks in four 64-bit words: test, set, share, contain.
-// Promises equations with specs/Marks. Depends on laws and wire.
+// Rows of 256 marks, each in four 64-bit words of a table: test, set, share, contain. A row is asked for by its number; how many words
+// it takes is said here alone. Promises equations with specs/Marks. Depends on laws and wire.
 ghost use mathlib.Core.Path.{_≡_};
-ghost use Prim.Native.Nat.{_+_, _<_};
-ghost use lib.ListN.{length};
-ghost use Rattle.marks.specs.Marks.{marked, markIf, wordsShare, wordInside, share, inside};
+ghost use Prim.Native.Nat.{_/_, _<_};
+ghost use lib.ListN.{length, getD, set};
+ghost use Rattle.marks.specs.Marks.{wordAt, HasRow, marked, markIf, wordsShare, wordInside, share, inside};
 
-// The mark of name v in the row of four words that starts at `at`.
-pub fn is_marked(table: &[u64], at: usize, v: usize) -> bool
-    requires { ⌜ (at + 3 < length (now table)) × (v < 256) ⌝ }
-    ensures { λ b. ⌜ b ≡ marked (now (table .entry)) at v ⌝ }
+// Word w of row u.
+pub fn word_at(table: &[u64], u: usize, w: usize) -> u64
+    requires { ⌜ HasRow (now table) u × (w < 4) ⌝ }
+    ensures { λ x. ⌜ x ≡ getD (now (table .entry)) (wordAt u w) 0 ⌝ }
 {
-    (table[at + v / 64] >> (v % 64)) % 2 == 1
+    table[4 * u + w]
 }
 
-// Marks name v in a row of four words where `on` is true.
+// Writes word w of row u.
+pub fn set_word(table: &mut [u64], u: usize, w: usize, x: u64)
+    requires { ⌜ HasRow (now table) u × (w < 4) ⌝ }
+    ensures { λ _. ⌜ now (table .exit) ≡ set (now (table .entry)) (wordAt u w) x ⌝ }
+{
+    table[4 * u + w] = x;
+}
+
+// The mark of name v in row u.
+pub fn is_marked(table: &[u64], u: usize, v: usize) -> bool
+    requires { ⌜ wordAt u (v / 64) < length (now table) ⌝ }
+    ensures { λ b. ⌜ b ≡ marked (now (table .entry)) u v ⌝ }
+{
+    (table[4 * u + v / 64] >> (v % 64)) % 2 == 1
+}
+
+// Marks name v in row 0 where `on` is true.
 pub fn mark_if(row: &mut [u64], on: bool, v: usize)
-    requires { ⌜ (length (now row) ≡ 4) × (v < 256) ⌝ }
+    requires { ⌜ v / 64 < length (now row) ⌝ }
     ensures { λ _. ⌜ now (row .exit) ≡ markIf (now (row .entry)) on v ⌝ }
 {
     if on {
@@ -23,44 +39,44 @@ pub fn mark_if(row: &mut [u64], on: bool, v: usize)
     }
 }
 
-// The words at u and v have a bit in common.
-fn words_share(table: &[u64], u: usize, v: usize) -> bool
-    requires { ⌜ (u < length (now table)) × (v < length (now table)) ⌝ }
-    ensures { λ b. ⌜ b ≡ wordsShare (now (table .entry)) u v ⌝ }
+// Word w of rows u and v: they have a bit in common.
+fn words_share(table: &[u64], u: usize, v: usize, w: usize) -> bool
+    requires { ⌜ HasRow (now table) u × HasRow (now table) v × (w < 4) ⌝ }
+    ensures { λ b. ⌜ b ≡ wordsShare (now (table .entry)) u v w ⌝ }
 {
-    let x = table[u];
-    let y = table[v];
+    let x = word_at(table, u, w);
+    let y = word_at(table, v, w);
     x & y != 0
 }
 
-// Every bit of the word at u of one table is a bit of the word at v of the other.
-fn word_inside(one: &[u64], u: usize, other: &[u64], v: usize) -> bool
-    requires { ⌜ (u < length (now one)) × (v < length (now other)) ⌝ }
-    ensures { λ b. ⌜ b ≡ wordInside (now (one .entry)) u (now (other .entry)) v ⌝ }
+// Word w of row u of one table and of row v of another: every bit of the first is a bit of the second.
+fn word_inside(one: &[u64], u: usize, other: &[u64], v: usize, w: usize) -> bool
+    requires { ⌜ HasRow (now one) u × HasRow (now other) v × (w < 4) ⌝ }
+    ensures { λ b. ⌜ b ≡ wordInside (now (one .entry)) u (now (other .entry)) v w ⌝ }
 {
-    let x = one[u];
-    let y = other[v];
+    let x = word_at(one, u, w);
+    let y = word_at(other, v, w);
     x & y == x
 }
 
-// The rows at words u and v have a mark in common.
+// Rows u and v have a mark in common.
 pub fn shares(table: &[u64], u: usize, v: usize) -> bool
-    requires { ⌜ (u + 3 < length (now table)) × (v + 3 < length (now table)) ⌝ }
+    requires { ⌜ HasRow (now table) u × HasRow (now table) v ⌝ }
     ensures { λ b. ⌜ b ≡ share (now (table .entry)) u v ⌝ }
 {
-    words_share(table, u, v)
-        | words_share(table, u + 1, v + 1)
-        | words_share(table, u + 2, v + 2)
-        | words_share(table, u + 3, v + 3)
+    words_share(table, u, v, 0)
+        | words_share(table, u, v, 1)
+        | words_share(table, u, v, 2)
+        | words_share(table, u, v, 3)
 }
 
-// Every mark of the row at word u of one table is a mark of the row at word v of the other.
+// Every mark of row u of one table is a mark of row v of the other.
 pub fn contained(one: &[u64], u: usize, other: &[u64], v: usize) -> bool
-    requires { ⌜ (u + 3 < length (now one)) × (v + 3 < length (now other)) ⌝ }
+    requires { ⌜ HasRow (now one) u × HasRow (now other) v ⌝ }
     ensures { λ b. ⌜ b ≡ inside (now (one .entry)) u (now (other .entry)) v ⌝ }
 {
-    word_inside(one, u, other, v)
-        & word_inside(one, u + 1, other, v + 1)
-        & word_inside(one, u + 2, other, v + 2)
-        & word_inside(one, u + 3, other, v + 3)
+    word_inside(one, u, other, v, 0)
+        & word_inside(one, u, other, v, 1)
+        & word_inside(one, u, other, v, 2)
+        & word_inside(one, u, other, v, 3)
 }

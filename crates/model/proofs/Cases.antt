@@ -31,7 +31,7 @@ use Rattle.model.specs.Safe as Z
 use Rattle.model.specs.Safe.{Safe, Flows}
 use Rattle.model.specs.Cases.{A, B, D, tableA, table, claim, rowsA, weightsA, limits, tableD, opened, thread, threeOfA, twiceBroken, H, tableH}
 use Rattle.model.proofs.Verdict.{live-Live}
-use Rattle.model.specs.Cases.{pair, lists, ended, A₁, B₀, B₁, B₁₂, B₂, B₃, B₄, G, G₁, G₂, Row, Says}
+use Rattle.model.specs.Cases.{pair, lists, walkEnded, A₁, B₀, B₁, B₁₂, B₂, B₃, B₄, G, G₁, G₂, Row, Says}
 use Rattle.model.specs.Cases.{rows, safeRows, stepRows, walkRows, toldRows, laterRows}
 use Rattle.model.proofs.Safety.{demand3}
 
@@ -221,25 +221,25 @@ walk-first-pair : Says (Row.noWalk B 1 B₃ B₄)
 unfolding computed
 walk-first-pair w = eqb-false 5 2 refl (ap firstAgent (walk-one B (standsFor B B₃) (standsFor B B₄) w))
 
-not-quiet : Says (Row.noEnd B 2 (ended Quiet 2 B₂))
+not-quiet : Says (Row.noEnd B 2 (walkEnded Quiet 2 B₂))
 unfolding computed
 not-quiet e = clear-hit _ (sym e)
 
-not-spent-quiet : Says (Row.noEnd A 1 (ended Spent 1 A₁))
+not-spent-quiet : Says (Row.noEnd A 1 (walkEnded Spent 1 A₁))
 unfolding computed
 not-spent-quiet (h, (u, e)) = clear-hit u e
 
-not-spent : Says (Row.noEnd B 3 (ended Spent 2 B₂))
+not-spent : Says (Row.noEnd B 3 (walkEnded Spent 2 B₂))
 unfolding computed
 not-spent (h, e) = eqb-false 2 3 refl h
 
-not-full : Says (Row.noEnd B 3 (ended Full 1 B₁₂))
+not-full : Says (Row.noEnd B 3 (walkEnded Full 1 B₁₂))
 unfolding computed
 not-full (h, (u, e, s)) =
     let q : 0 ≡ refusalIn (M.stepIn B B₁₂ u) = ap (λ (w : Attempt). refusalIn (M.stepIn B B₁₂ w)) (ap attemptIn e) in
     ⊎-elim (λ f. eqb-false 0 28 refl (q ∙ ap refusalIn f)) (λ f. eqb-false 0 29 refl (q ∙ ap refusalIn f)) s
 
-not-full-spent : Says (Row.noEnd B 2 (ended Full 2 B₂))
+not-full-spent : Says (Row.noEnd B 2 (walkEnded Full 2 B₂))
 unfolding computed
 not-full-spent (h, e) = let z : 2 < 2 = h in absurd (omega (arith, z))
 

@@ -17,13 +17,13 @@ use Rattle.model.specs.Rules.{Table, Claim, Broken, Verdict, held, at, v
 use Rattle.model.specs.Safe.{Safe}
 
 -- an array of listed nodes
-abbrev pub arrayOf : ℕ → List Node → Array
-arrayOf n nodes = record { size = length nodes; names = n; node = λ i. getD nodes i Node.stop }
+abbrev pub arrayFrom : ℕ → List Node → Array
+arrayFrom n nodes = record { size = length nodes; names = n; node = λ i. getD nodes i Node.stop }
 
 -- "A: 0 new 0 to 1; 1 new 1 to 2; 2 par 3, 5; 3 out 0 [1] to 4; 4 stop; 5 in 0 [2] to 6; 6 out 2 [] to 7; 7 stop."
 abbrev pub A : Array
 A =
-    arrayOf 3
+    arrayFrom 3
     (Node.new 0 1
     ∷ Node.new 1 2
     ∷ Node.par 3 5
@@ -37,7 +37,7 @@ A =
 -- "B: 0 new 0 to 1; 1 par 2, 4; 2 out 0 [] to 3; 3 stop; 4 resource 0 [] to 5; 5 out 0 [] to 6; 6 stop."
 abbrev pub B : Array
 B =
-    arrayOf 1
+    arrayFrom 1
     (Node.new 0 1
     ∷ Node.par 2 4
     ∷ Node.agent out 0 [] 3
@@ -50,7 +50,7 @@ B =
 -- "C: 0 new 0 to 1; 1 choice 2, 4; 2 out 0 [] to 3; 3 stop; 4 in 0 [] to 5; 5 stop."
 abbrev pub C : Array
 C =
-    arrayOf 1
+    arrayFrom 1
     (Node.new 0 1
     ∷ Node.choice 2 4
     ∷ Node.agent out 0 [] 3
@@ -62,7 +62,7 @@ C =
 -- A resource that receives twice and opens name 1 each time, for a sender (10) and a receiver (11) of each instance.
 abbrev pub D : Array
 D =
-    arrayOf 2
+    arrayFrom 2
     (Node.new 0 1
     ∷ Node.par 2 3
     ∷ Node.agent resource 0 [] 4
@@ -81,12 +81,12 @@ D =
 
 -- A sender and a resource that leave nothing.
 abbrev pub G : Array
-G = arrayOf 1 (Node.new 0 1 ∷ Node.par 2 3 ∷ Node.agent out 0 [] 4 ∷ Node.agent resource 0 [] 5 ∷ Node.stop ∷ Node.stop ∷ [])
+G = arrayFrom 1 (Node.new 0 1 ∷ Node.par 2 3 ∷ Node.agent out 0 [] 4 ∷ Node.agent resource 0 [] 5 ∷ Node.stop ∷ Node.stop ∷ [])
 
 -- Two resources that each leave a sender, for one sender.
 abbrev pub H : Array
 H =
-    arrayOf 1
+    arrayFrom 1
     (Node.new 0 1
     ∷ Node.par 2 3
     ∷ Node.par 4 5
@@ -168,8 +168,8 @@ abbrev pub G₂ : Memory
 G₂ = lists (3 ∷ 0 ∷ 1 ∷ 3 ∷ 0 ∷ 1 ∷ []) 1 (3 ∷ 3 ∷ 0 ∷ 0 ∷ []) 1
 
 -- the ending and the steps of a walk that left these lists
-abbrev pub ended : Ending → ℕ → Memory → Walked
-ended x n m = record { ending = x; steps = n; left = m }
+abbrev pub walkEnded : Ending → ℕ → Memory → Walked
+walkEnded x n m = record { ending = x; steps = n; left = m }
 
 -- threads of A: its sender, and two of agent 6, the last with a given cell of its free name 2
 abbrev pub thread : ℕ → List Cell → Thread Marker Cell
@@ -311,11 +311,11 @@ walkRows =
     ∷ noWalk B 0 B₁ B₁₂
     ∷ noWalk B 1 B₃ B₄
     -- Not quiet with a ready pair; not spent without one, or with a step left; not full with a marker's room, or with all steps made.
-    ∷ noEnd B 2 (ended Quiet 2 B₂)
-    ∷ noEnd A 1 (ended Spent 1 A₁)
-    ∷ noEnd B 3 (ended Spent 2 B₂)
-    ∷ noEnd B 3 (ended Full 1 B₁₂)
-    ∷ noEnd B 2 (ended Full 2 B₂)
+    ∷ noEnd B 2 (walkEnded Quiet 2 B₂)
+    ∷ noEnd A 1 (walkEnded Spent 1 A₁)
+    ∷ noEnd B 3 (walkEnded Spent 2 B₂)
+    ∷ noEnd B 3 (walkEnded Full 1 B₁₂)
+    ∷ noEnd B 2 (walkEnded Full 2 B₂)
     ∷ []
 
 -- what a walk does not do next

@@ -13,7 +13,7 @@ use borrow.Author.Tests.{eqb-true}
 use Rattle.laws.specs.Search.{clear, under}
 use Rattle.laws.proofs.Search.{decided, and-split}
 use Rattle.laws.proofs.Lists.{All-getD}
-use Rattle.marks.specs.Marks.{share, inside}
+use Rattle.marks.specs.Marks.{HasRow, share, inside}
 use Rattle.model.specs.Tree.{Array, Agent, agentAt, isAgent, receives}
 use Rattle.model.specs.Memory.{isOut, isResource}
 use Rattle.model.specs.Rules.{Table, live, shareBit, fitBoth, within, taken, loadLeft, weightGone, Verdict, onLive}
@@ -27,7 +27,7 @@ use Rattle.arrays.specs.Agents.{agentIn, Reads}
 use Rattle.arrays.proofs.Agents.{agent-is, no-agent, small-arity, arity-is, name-below, args-below, left-below}
 use Rattle.loads.specs.Loads.{loadIn}
 use Rattle.pairs.specs.declared.Side.{Side}
-use Rattle.pairs.specs.Pairs.{listed, Lists, Weighed, figureHolds, livePair, argumentHolds, balanceHolds}
+use Rattle.pairs.specs.Pairs.{listTable, Lists, Weighed, figureHolds, livePair, argumentHolds, balanceHolds}
 use Rattle.pairs.specs.Pairs.{takenOf, holdsAt, NameRow, ArgumentRows, HalfPair}
 
 -- an array file, and lists of n balances
@@ -67,17 +67,17 @@ module _ {S : Setting} (g : Given S) where
   a = arrayOf (S .f) (S .t)
 
   abbrev T : Table
-  T = listed (S .rows) (S .loads) (S .bounds) (S .n)
+  T = listTable (S .rows) (S .loads) (S .bounds) (S .n)
 
   -- ---- rows of an agent's names
 
-  row-fits : (v : ℕ) → v < S .t .names → 4 * v + 3 < length (S .rows)
+  row-fits : (v : ℕ) → v < S .t .names → HasRow (S .rows) v
   row-fits v h = omega (arith, g .read .formed .fewNames, g .lists .manyRows)
 
   pub name-row : {p : Side} → Held S p → NameRow (S .rows) p
   name-row h k = row-fits _ (name-below (g .read) h k)
 
-  arg-row : {p : Side} → Held S p → isAgent (nodeOf (p .node)) ≡ true → (m : ℕ) → m < p .node .arity → 4 * getD (p .node .args) m 0 + 3 < length (S .rows)
+  arg-row : {p : Side} → Held S p → isAgent (nodeOf (p .node)) ≡ true → (m : ℕ) → m < p .node .arity → HasRow (S .rows) (getD (p .node .args) m 0)
   arg-row {p} h k m l =
       let e = arity-is (g .read) h in
       row-fits _ (rw (← arg-is (p .node) m l) (All-getD (λ y. y < S .t .names) (argsOf (p .node)) m 0 (args-below (g .read) h k) (omega arith)))

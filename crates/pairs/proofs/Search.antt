@@ -16,13 +16,13 @@ use Rattle.arrays.proofs.Agents.{small-arity, arity-is}
 use Rattle.pairs.specs.declared.Side.{Side}
 use Rattle.pairs.specs.declared.Place.{Place}
 use Rattle.pairs.specs.declared.Place.the-variants.{Nowhere, At}
-use Rattle.pairs.specs.Pairs.{listed, placeOf, atPair, pairsOf, placed, figuresOf, holdsAt, pairHolds}
+use Rattle.pairs.specs.Pairs.{listTable, placeOf, atPair, pairsOf, placed, figuresOf, holdsAt, pairHolds}
 use Rattle.pairs.proofs.Laws.{Setting, Given, Held, alive, no-receiver, pair-is, figure-is}
 
 -- ---- the searches at a pair, at a receiver and at a figure
 
 abbrev pub tableIn : Setting → Table
-tableIn S = listed (S .rows) (S .loads) (S .bounds) (S .n)
+tableIn S = listTable (S .rows) (S .loads) (S .bounds) (S .n)
 
 abbrev pub pairAt : ℕ → Setting → ℕ → ℕ → Verdict
 pairAt rule S i j =

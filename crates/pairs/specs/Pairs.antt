@@ -6,7 +6,7 @@ use mathlib.Core.List.{List, [], _∷_}
 use lib.Dec.{eqb, leb}
 use lib.ListN.{length, getD}
 use Rattle.laws.specs.Search.{clear, hit, test, first, every}
-use Rattle.marks.specs.Marks.{marked, share, inside}
+use Rattle.marks.specs.Marks.{HasRow, marked, share, inside}
 use Rattle.model.specs.Tree.{Array, Agent, isAgent, procAt, load}
 use Rattle.model.specs.Memory.{isOut, isResource}
 use Rattle.model.specs.Rules.{Table, Broken, Verdict, at, within, loadLeft, weightGone, pairs}
@@ -20,9 +20,9 @@ use Rattle.pairs.specs.declared.Place.the-variants.{Nowhere, At}
 
 -- ---- the table that the checker's lists stand for: rows of marks, loads and bounds of n balances; the claims stay in the file
 
-abbrev pub listed : List ℕ → List ℕ → List ℕ → ℕ → Table
-listed rows loads bounds n = record {
-  row = λ v o. marked rows (4 * v) o;
+abbrev pub listTable : List ℕ → List ℕ → List ℕ → ℕ → Table
+listTable rows loads bounds n = record {
+  row = marked rows;
   balances = n;
   balance = λ k. record { bound = getD bounds k 0; weight = λ i. loadIn loads i k };
   claims = 0;
@@ -89,11 +89,11 @@ abbrev pub livePair : List ℕ → List ℕ → List ℕ → ℕ → Side → Si
 livePair rows loads bounds n p q =
     isOut (nodeOf (q .node))
     && eqb (p .node .arity) (q .node .arity)
-    && share rows (4 * p .node .name) (4 * q .node .name)
+    && share rows (p .node .name) (q .node .name)
     && every n (bearsBoth loads bounds (p .number) (q .number))
 
 abbrev pub argumentHolds : List ℕ → Side → Side → ℕ → Bool
-argumentHolds rows p q n = inside rows (4 * getD (q .node .args) n 0) rows (4 * getD (p .node .args) n 0)
+argumentHolds rows p q n = inside rows (getD (q .node .args) n 0) rows (getD (p .node .args) n 0)
 
 -- what goes of a receiver's weight
 abbrev pub takenOf : Record → ℕ → ℕ
@@ -114,11 +114,11 @@ pairHolds rule n loads p q = not (eqb rule 3) && every n (balanceHolds loads p q
 
 -- rows of an agent's channel
 abbrev pub NameRow : List ℕ → Side → Type 0
-NameRow rows p = isAgent (nodeOf (p .node)) ≡ true → 4 * p .node .name + 3 < length rows
+NameRow rows p = isAgent (nodeOf (p .node)) ≡ true → HasRow rows (p .node .name)
 
 -- rows of argument n of both
 abbrev pub ArgumentRows : List ℕ → Side → Side → ℕ → Type 0
-ArgumentRows rows p q n = (n < 8) × (4 * getD (p .node .args) n 0 + 3 < length rows) × (4 * getD (q .node .args) n 0 + 3 < length rows)
+ArgumentRows rows p q n = (n < 8) × HasRow rows (getD (p .node .args) n 0) × HasRow rows (getD (q .node .args) n 0)
 
 -- what rule 4 compares in balance k
 abbrev pub HalfPair : List ℕ → Side → Side → ℕ → Type 0

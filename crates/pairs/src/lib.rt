@@ -10,7 +10,7 @@ ghost use Rattle.laws.specs.Search.{every};
 ghost use Rattle.model.specs.Tree.{isAgent};
 ghost use Rattle.records.specs.Record.{nodeOf, arrayOf};
 ghost use Rattle.arrays.specs.File.{IsRead};
-ghost use Rattle.pairs.specs.Pairs.{listed, Lists, HalfRow, Weighed, placed, pairsOf, SmallFigure, figuresOf, takenOf};
+ghost use Rattle.pairs.specs.Pairs.{listTable, Lists, HalfRow, Weighed, placed, pairsOf, SmallFigure, figuresOf, takenOf};
 ghost use Rattle.pairs.specs.Pairs.{bearsBoth, livePair, argumentHolds, balanceHolds, holdsAt, pairHolds, NameRow, ArgumentRows, HalfPair};
 use records::Record;
 use records::Trailer;
@@ -53,7 +53,7 @@ fn live(balances: usize, rows: &[u64], loads: &[u32], bounds: &[u32], p: Side, q
     if p.node.arity != q.node.arity {
         return false;
     }
-    if !marks::shares(rows, 4 * p.node.name, 4 * q.node.name) {
+    if !marks::shares(rows, p.node.name, q.node.name) {
         return false;
     }
     fit_both(balances, loads, bounds, p.number, q.number)
@@ -81,9 +81,9 @@ fn argument_holds(rows: &[u64], p: Side, q: Side, n: usize) -> bool
     let bound = p.node.args;
     marks::contained(
         rows,
-        4 * wire::byte_index(sent[n]),
+        wire::byte_index(sent[n]),
         rows,
-        4 * wire::byte_index(bound[n]),
+        wire::byte_index(bound[n]),
     )
 }
 
@@ -155,7 +155,7 @@ pub fn first_pair(
 ) -> Place
     requires { ⌜ IsRead (now file) t × Lists balances (now rows) (now bounds) × Weighed (now loads) (arrayOf (now file) t) balances ⌝ }
     ensures { λ r. ⌜ placed rule r
-        ≡ pairsOf rule (arrayOf (now (file .entry)) t) (listed (now (rows .entry)) (now (loads .entry)) (now (bounds .entry)) balances) ⌝ }
+        ≡ pairsOf rule (arrayOf (now (file .entry)) t) (listTable (now (rows .entry)) (now (loads .entry)) (now (bounds .entry)) balances) ⌝ }
     ensures { λ r. ⌜ SmallFigure r ⌝ }
 {
     let nodes = t.nodes;

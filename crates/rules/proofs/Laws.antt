@@ -28,10 +28,10 @@ use Rattle.layout.specs.Table.{balanceAt, claimAt, rowBit, tableOf, refusal21, 
 use Rattle.loads.specs.Loads.{loadIn, AllLoads}
 use Rattle.loads.proofs.Laws.{half-load}
 use Rattle.pairs.specs.declared.Place.the-variants.{At}
-use Rattle.pairs.specs.Pairs.{listed, Weighed, atPair, pairsOf, placed}
+use Rattle.pairs.specs.Pairs.{listTable, Weighed, atPair, pairsOf, placed}
 use Rattle.rules.specs.declared.Ruling.{Ruling}
 use Rattle.rules.specs.declared.Ruling.the-variants.{Held, Rule1, Rule2, Rule3, Rule4, Rule5}
-use Rattle.rules.specs.Ruling.{ruled, isHeld, ruleBelow, ownMarked, rootFits, claimHolds, ClaimsListed, Listed, claimed}
+use Rattle.rules.specs.Ruling.{ruled, isHeld, ruleBelow, ownMarked, rootFits, claimHolds, ClaimsListed, AllListed, claimed}
 use Rattle.rules.proofs.Alike.{Alike, load-alike, check3-alike, check4-alike, verdict-alike}
 
 -- ---- a loop passes place k, or stops there
@@ -84,12 +84,12 @@ place-three p q n = ap (λ (k : ℕ). hit (at 3 (p ∷ q ∷ k ∷ []))) (add-on
 
 -- ---- over the table that the lists and the claims of the file stand for
 
-module _ {f : List ℕ} {t : Trailer} {s : List ℕ} {z : Sizes} {rows loads bounds : List ℕ} (all : Listed f t s z rows loads bounds) where
+module _ {f : List ℕ} {t : Trailer} {s : List ℕ} {z : Sizes} {rows loads bounds : List ℕ} (all : AllListed f t s z rows loads bounds) where
   abbrev a : Array
   a = arrayOf f t
 
   abbrev L : Table
-  L = listed rows loads bounds (z .balances)
+  L = listTable rows loads bounds (z .balances)
 
   -- rows and balances are the lists'
   same : Alike a L (claimed L s z)
@@ -127,7 +127,7 @@ agent-load w i f (Node.agent s x ys l) e = refl
 
 module _ (f : List ℕ) (t : Trailer) (s : List ℕ) (z : Sizes) (read : IsRead f t) (table : IsTable f t s z) (bytes : (i : ℕ) → getD s i 0 < 256)
     (rows loads bounds : List ℕ) (manyRows : length rows ≡ 1024) (manyLoads : length loads ≡ 24576) (manyBounds : length bounds ≡ 24)
-    (marks : (v o : ℕ) → v < z .names → o < 256 → marked rows (4 * v) o ≡ rowBit s z v o) (weighs : AllLoads loads (arrayOf f t) (tableOf s z))
+    (marks : (v o : ℕ) → v < z .names → o < 256 → marked rows v o ≡ rowBit s z v o) (weighs : AllLoads loads (arrayOf f t) (tableOf s z))
     (bears : (k : ℕ) → k < z .balances → getD bounds k 0 ≡ u32At s (balanceAt z k)) where
   abbrev b : Array
   b = arrayOf f t
@@ -176,7 +176,7 @@ module _ (f : List ℕ) (t : Trailer) (s : List ℕ) (z : Sizes) (read : IsRead 
             };
       }
 
-  pub filled : Listed f t s z rows loads bounds
+  pub filled : AllListed f t s z rows loads bounds
   filled = record {
     read = read;
     lists = record { few = table .laid .fewBalances; manyRows = manyRows; manyBounds = manyBounds };
@@ -185,7 +185,7 @@ module _ (f : List ℕ) (t : Trailer) (s : List ℕ) (z : Sizes) (read : IsRead 
   }
 
   -- the verdict over the lists is that over the table of the bytes
-  pub judged : verdict b (claimed (listed rows loads bounds (z .balances)) s z) ≡ verdict b T
+  pub judged : verdict b (claimed (listTable rows loads bounds (z .balances)) s z) ≡ verdict b T
   judged =
       verdict-alike b ok _ T
       record { rows = λ v o h. marks v o (rw (table .laid .names) h); many = refl; bounds = bears; weights = weight-is }

@@ -47,7 +47,7 @@ ruleBelow n r holds = first n (λ k. test (holds k) (at r (k ∷ [])))
 
 -- name o is no name that a new opens, or its row has its own mark
 abbrev pub ownMarked : Array → List ℕ → ℕ → Bool
-ownMarked a rows o = not (isNew a o) || marked rows (4 * o) o
+ownMarked a rows o = not (isNew a o) || marked rows o o
 
 -- the load of node 0 in balance k is within the bound
 abbrev pub rootFits : List ℕ → List ℕ → ℕ → Bool
@@ -73,7 +73,7 @@ pub record ClaimsListed (s : List ℕ) (z : Sizes) (loads bounds : List ℕ) : T
 
 -- ---- all rules: over a file that was read, lists that stand for a table, and the claims of a table file
 
-pub record Listed (f : List ℕ) (t : Trailer) (s : List ℕ) (z : Sizes) (rows loads bounds : List ℕ) : Type 0 where
+pub record AllListed (f : List ℕ) (t : Trailer) (s : List ℕ) (z : Sizes) (rows loads bounds : List ℕ) : Type 0 where
   pub read : IsRead f t
   pub lists : Lists (z .balances) rows bounds
   pub weighed : Weighed loads (arrayOf f t) (z .balances)

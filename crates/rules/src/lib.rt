@@ -10,8 +10,8 @@ ghost use Rattle.records.specs.Record.{arrayOf, RecordsFit};
 ghost use Rattle.arrays.specs.File.{IsRead};
 ghost use Rattle.wire.specs.Numbers.{u32At};
 ghost use Rattle.layout.specs.Table.{balanceAt, claimAt, tableOf, IsTable};
-ghost use Rattle.pairs.specs.Pairs.{listed, Lists, HalfRow, Weighed};
-ghost use Rattle.rules.specs.Ruling.{ruled, isHeld, from3, ruleBelow, ownMarked, rootFits, claimHolds, ClaimListed, ClaimsListed, Listed, claimed};
+ghost use Rattle.pairs.specs.Pairs.{listTable, Lists, HalfRow, Weighed};
+ghost use Rattle.rules.specs.Ruling.{ruled, isHeld, from3, ruleBelow, ownMarked, rootFits, claimHolds, ClaimListed, ClaimsListed, AllListed, claimed};
 use layout::Sizes;
 use pairs::Place;
 use records::Trailer;
@@ -47,7 +47,7 @@ fn first_rule(file: &[u8], t: Trailer, rows: &[u64]) -> Ruling
     let mut o: usize = 0;
     while o < t.names {
         let opened = marks::is_marked(&news, 0, o);
-        let own = marks::is_marked(rows, 4 * o, o);
+        let own = marks::is_marked(rows, o, o);
         if !(!opened | own) {
             return Ruling::Rule1(o);
         }
@@ -81,7 +81,7 @@ fn third_rule(
     bounds: &[u32],
 ) -> Ruling
     requires { ⌜ IsRead (now file) t × Lists balances (now rows) (now bounds) × Weighed (now loads) (arrayOf (now file) t) balances ⌝ }
-    ensures { λ r. ⌜ ruled r ≡ M.check3 (arrayOf (now (file .entry)) t) (listed (now (rows .entry)) (now (loads .entry)) (now (bounds .entry)) balances) ⌝ }
+    ensures { λ r. ⌜ ruled r ≡ M.check3 (arrayOf (now (file .entry)) t) (listTable (now (rows .entry)) (now (loads .entry)) (now (bounds .entry)) balances) ⌝ }
 {
     match pairs::first_pair(3, file, t, balances, rows, loads, bounds) {
         Place::Nowhere => Ruling::Held,
@@ -99,7 +99,7 @@ fn fourth_rule(
     bounds: &[u32],
 ) -> Ruling
     requires { ⌜ IsRead (now file) t × Lists balances (now rows) (now bounds) × Weighed (now loads) (arrayOf (now file) t) balances ⌝ }
-    ensures { λ r. ⌜ ruled r ≡ M.check4 (arrayOf (now (file .entry)) t) (listed (now (rows .entry)) (now (loads .entry)) (now (bounds .entry)) balances) ⌝ }
+    ensures { λ r. ⌜ ruled r ≡ M.check4 (arrayOf (now (file .entry)) t) (listTable (now (rows .entry)) (now (loads .entry)) (now (bounds .entry)) balances) ⌝ }
 {
     match pairs::first_pair(4, file, t, balances, rows, loads, bounds) {
         Place::Nowhere => Ruling::Held,
@@ -157,9 +157,9 @@ fn later_rules(
     loads: &[u32],
     bounds: &[u32],
 ) -> Ruling
-    requires { ⌜ Listed (now file) t (now table) z (now rows) (now loads) (now bounds) ⌝ }
+    requires { ⌜ AllListed (now file) t (now table) z (now rows) (now loads) (now bounds) ⌝ }
     ensures { λ r. ⌜ ruled r ≡ from3 (arrayOf (now (file .entry)) t)
-        (claimed (listed (now (rows .entry)) (now (loads .entry)) (now (bounds .entry)) (z .balances)) (now (table .entry)) z) ⌝ }
+        (claimed (listTable (now (rows .entry)) (now (loads .entry)) (now (bounds .entry)) (z .balances)) (now (table .entry)) z) ⌝ }
 {
     let third = third_rule(file, t, z.balances, rows, loads, bounds);
     if !is_held(third) {
@@ -182,9 +182,9 @@ fn all_rules(
     loads: &[u32],
     bounds: &[u32],
 ) -> Ruling
-    requires { ⌜ Listed (now file) t (now table) z (now rows) (now loads) (now bounds) ⌝ }
+    requires { ⌜ AllListed (now file) t (now table) z (now rows) (now loads) (now bounds) ⌝ }
     ensures { λ r. ⌜ ruled r ≡ M.verdict (arrayOf (now (file .entry)) t)
-        (claimed (listed (now (rows .entry)) (now (loads .entry)) (now (bounds .entry)) (z .balances)) (now (table .entry)) z) ⌝ }
+        (claimed (listTable (now (rows .entry)) (now (loads .entry)) (now (bounds .entry)) (z .balances)) (now (table .entry)) z) ⌝ }
 {
     let first = first_rule(file, t, rows);
     if !is_held(first) {

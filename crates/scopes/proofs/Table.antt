@@ -29,7 +29,7 @@ use Rattle.records.proofs.Laws.{node-read}
 use Rattle.records.proofs.KindLaws.{children-of, left-child, right-child}
 use Rattle.model.proofs.Tree.{child-above}
 use Rattle.model.proofs.Reach.{parent, reach-root, reach-child}
-use Rattle.marks.specs.Marks.{marked}
+use Rattle.marks.specs.Marks.{wordAt, HasRow, marked}
 use Rattle.marks.proofs.Laws.{marked-none}
 use Rattle.scopes.specs.Scope.{passed, passIf, HandedDown}
 use Rattle.scopes.proofs.Laws.{uses-of}
@@ -38,7 +38,7 @@ use Rattle.scopes.proofs.Laws.{uses-of}
 
 module _ (table : List ℕ) (from to : ℕ) (bound : List ℕ) where
   pub passed-step : (n : ℕ) → passed table from to bound (n + 1)
-      ≡ set (passed table from to bound n) (4 * to + n) (bitOr (getD (passed table from to bound n) (4 * from + n) 0) (getD bound n 0))
+      ≡ set (passed table from to bound n) (wordAt to n) (bitOr (getD (passed table from to bound n) (wordAt from n) 0) (getD bound n 0))
   unfolding passed
   passed-step n = rw (add-one, passed)
 
@@ -48,39 +48,39 @@ module _ (table : List ℕ) (from to : ℕ) (bound : List ℕ) where
   passed-length (suc n) = length-set (passed table from to bound n) _ _ ∙ passed-length n
 
   -- words that are not written
-  passed-else : (n k : ℕ) → ((w : ℕ) → w < n → k ≢ 4 * to + w) → getD (passed table from to bound n) k 0 ≡ getD table k 0
+  passed-else : (n k : ℕ) → ((w : ℕ) → w < n → k ≢ wordAt to w) → getD (passed table from to bound n) k 0 ≡ getD table k 0
   unfolding passed
   passed-else zero k ne = refl
   passed-else (suc n) k ne =
       getD-set-other (passed table from to bound n) _ k _ 0 (ne n (omega arith)) ∙ passed-else n k (λ w l. ne w (omega arith))
 
-  module _ (above : from < to) (fits : 4 * to + 3 < length table) where
+  module _ (above : from < to) (fits : HasRow table to) where
     -- words that are written
-    passed-at : (n w : ℕ) → n ≤ 4 → w < n → getD (passed table from to bound n) (4 * to + w) 0 ≡ bitOr (getD table (4 * from + w) 0) (getD bound w 0)
+    passed-at : (n w : ℕ) → n ≤ 4 → w < n → getD (passed table from to bound n) (wordAt to w) 0 ≡ bitOr (getD table (wordAt from w) 0) (getD bound w 0)
     unfolding passed
     passed-at zero w h l = absurd (not-suc-le-zero l)
     passed-at (suc n) w h l =
         ⊎-elim
         (λ (q : w ≡ n).
         rw q
-        (getD-set-same (passed table from to bound n) (4 * to + n) _ 0 (rw passed-length (omega arith))
-        ∙ ap (λ (x : ℕ). bitOr x (getD bound n 0)) (passed-else n (4 * from + n) (λ m g e. absurd (omega arith)))))
+        (getD-set-same (passed table from to bound n) (wordAt to n) _ 0 (rw passed-length (omega arith))
+        ∙ ap (λ (x : ℕ). bitOr x (getD bound n 0)) (passed-else n (wordAt from n) (λ m g e. absurd (omega arith)))))
         (λ (k : w < n).
-        getD-set-other (passed table from to bound n) (4 * to + n) (4 * to + w) _ 0 (λ e. absurd (omega arith)) ∙ passed-at n w (omega arith) k)
+        getD-set-other (passed table from to bound n) (wordAt to n) (wordAt to w) _ 0 (λ e. absurd (omega arith)) ∙ passed-at n w (omega arith) k)
         (eq-or-lt-of-le (le-of-suc-le-suc l))
 
     marked-passed : (i v : ℕ) → v < 256
-        → marked (passed table from to bound 4) (4 * i) v ≡ cond (eqb i to) (marked table (4 * from) v || marked bound 0 v) (marked table (4 * i) v)
+        → marked (passed table from to bound 4) i v ≡ cond (eqb i to) (marked table from v || marked bound 0 v) (marked table i v)
     unfolding marked
     marked-passed i v h = go (decided (eqb i to))
       where
         go : (eqb i to ≡ true) ⊎ (eqb i to ≡ false)
-            → marked (passed table from to bound 4) (4 * i) v ≡ cond (eqb i to) (marked table (4 * from) v || marked bound 0 v) (marked table (4 * i) v)
+            → marked (passed table from to bound 4) i v ≡ cond (eqb i to) (marked table from v || marked bound 0 v) (marked table i v)
         go (inl e) =
             rw (e, eqb-true i to e, zero-add)
             (ap (λ (x : ℕ). bit x (v % 64)) (passed-at 4 (v / 64) (omega arith) (omega arith))
-            ∙ bit-or (getD table (4 * from + v / 64) 0) (getD bound (v / 64) 0) (v % 64))
-        go (inr e) = rw e (ap (λ (x : ℕ). bit x (v % 64)) (passed-else 4 (4 * i + v / 64) (λ w l q. eqb-false i to e (omega arith))))
+            ∙ bit-or (getD table (wordAt from (v / 64)) 0) (getD bound (v / 64) 0) (v % 64))
+        go (inr e) = rw e (ap (λ (x : ℕ). bit x (v % 64)) (passed-else 4 (wordAt i (v / 64)) (λ w l q. eqb-false i to e (omega arith))))
 
 passIf-length : (table : List ℕ) (on : Bool) (from to : ℕ) (bound : List ℕ) → length (passIf table on from to bound) ≡ length table
 unfolding passIf
@@ -88,21 +88,21 @@ passIf-length table true from to bound = passed-length table from to bound 4
 passIf-length table false from to bound = refl
 
 marked-passIf : (table : List ℕ) (on : Bool) (from to : ℕ) (bound : List ℕ)
-    → (on ≡ true → (from < to) × (4 * to + 3 < length table)) → (i v : ℕ) → v < 256
-    → marked (passIf table on from to bound) (4 * i) v ≡ cond (on && eqb i to) (marked table (4 * from) v || marked bound 0 v) (marked table (4 * i) v)
+    → (on ≡ true → (from < to) × HasRow table to) → (i v : ℕ) → v < 256
+    → marked (passIf table on from to bound) i v ≡ cond (on && eqb i to) (marked table from v || marked bound 0 v) (marked table i v)
 unfolding passIf
 marked-passIf table true from to bound fits i v h = marked-passed table from to bound (fits refl .0) (fits refl .1) i v h
 marked-passIf table false from to bound fits i v h = refl
 
 -- two passes from one row to others
 marked-twice : (table : List ℕ) (p q : Bool) (j l r : ℕ) (bound : List ℕ)
-    → (p ≡ true → (j < l) × (4 * l + 3 < length table)) → (q ≡ true → (j < r) × (4 * r + 3 < length table)) → (i v : ℕ) → v < 256
-    → marked (passIf (passIf table p j l bound) q j r bound) (4 * i) v
-    ≡ cond ((p && eqb i l) || (q && eqb i r)) (marked table (4 * j) v || marked bound 0 v) (marked table (4 * i) v)
+    → (p ≡ true → (j < l) × HasRow table l) → (q ≡ true → (j < r) × HasRow table r) → (i v : ℕ) → v < 256
+    → marked (passIf (passIf table p j l bound) q j r bound) i v
+    ≡ cond ((p && eqb i l) || (q && eqb i r)) (marked table j v || marked bound 0 v) (marked table i v)
 marked-twice table p q j l r bound fl fr i v h =
     marked-passIf once q j r bound (λ e. let f = fr e in (f .0, rw (passIf-length table p j l bound) (f .1))) i v h
-    ∙ ap (λ (b : Bool). cond (q && eqb i r) (b || marked bound 0 v) (marked once (4 * i) v))
-    (marked-passIf table p j l bound fl j v h ∙ ap (λ (b : Bool). cond b new (marked table (4 * j) v)) (own p fl))
+    ∙ ap (λ (b : Bool). cond (q && eqb i r) (b || marked bound 0 v) (marked once i v))
+    (marked-passIf table p j l bound fl j v h ∙ ap (λ (b : Bool). cond b new (marked table j v)) (own p fl))
     ∙ ap (cond (q && eqb i r) new) (marked-passIf table p j l bound fl i v h)
     ∙ merge (p && eqb i l) (q && eqb i r)
   where
@@ -110,23 +110,23 @@ marked-twice table p q j l r bound fl fr i v h =
     once = passIf table p j l bound
 
     new : Bool
-    new = marked table (4 * j) v || marked bound 0 v
+    new = marked table j v || marked bound 0 v
 
     -- the first pass leaves row j
-    own : (b : Bool) → (b ≡ true → (j < l) × (4 * l + 3 < length table)) → b && eqb j l ≡ false
+    own : (b : Bool) → (b ≡ true → (j < l) × HasRow table l) → b && eqb j l ≡ false
     own true f = let g = f refl .0 in ne-eqb j l (λ e. absurd (omega arith))
     own false f = refl
 
-    merge : (b c : Bool) → cond c new (cond b new (marked table (4 * i) v)) ≡ cond (b || c) new (marked table (4 * i) v)
+    merge : (b c : Bool) → cond c new (cond b new (marked table i v)) ≡ cond (b || c) new (marked table i v)
     merge true true = refl
     merge true false = refl
     merge false c = refl
 
-module _ (table : List ℕ) (j : ℕ) (r : Record) (fits : (c : ℕ) → has (children (nodeOf r)) c ≡ true → (j < c) × (4 * c + 3 < length table)) where
-  pub left-fits : not (isStop (nodeOf r)) ≡ true → (j < r .left) × (4 * r .left + 3 < length table)
+module _ (table : List ℕ) (j : ℕ) (r : Record) (fits : (c : ℕ) → has (children (nodeOf r)) c ≡ true → (j < c) × HasRow table c) where
+  pub left-fits : not (isStop (nodeOf r)) ≡ true → (j < r .left) × HasRow table (r .left)
   left-fits e = fits (r .left) (left-child r (not-true _ e))
 
-  pub right-fits : isPar (nodeOf r) || isChoice (nodeOf r) ≡ true → (j < r .right) × (4 * r .right + 3 < length table)
+  pub right-fits : isPar (nodeOf r) || isChoice (nodeOf r) ≡ true → (j < r .right) × HasRow table (r .right)
   right-fits e = fits (r .right) (right-child r e)
 
   -- the two children that there may be
@@ -136,7 +136,7 @@ module _ (table : List ℕ) (j : ℕ) (r : Record) (fits : (c : ℕ) → has (ch
   handed-down bound b = record {
     rows = λ i v h.
         marked-twice table (not (isStop (nodeOf r))) (isPar (nodeOf r) || isChoice (nodeOf r)) j (r .left) (r .right) bound left-fits right-fits i v h
-        ∙ ap₂ (λ (c m : Bool). cond c (marked table (4 * j) v || m) (marked table (4 * i) v)) (sym (children-of r i)) (b v h);
+        ∙ ap₂ (λ (c m : Bool). cond c (marked table j v || m) (marked table i v)) (sym (children-of r i)) (b v h);
   }
 
 -- ---- the table while it is filled
@@ -144,11 +144,11 @@ module _ (table : List ℕ) (j : ℕ) (r : Record) (fits : (c : ℕ) → has (ch
 -- the row of every node whose parent, where it has one, is below j
 abbrev pub Filled : Array → List ℕ → ℕ → Type 0
 Filled a table j =
-    (i v : ℕ) → i < a .size → v < 256 → ((p : ℕ) → has (children (nodeAt a p)) i ≡ true → p < j) → marked table (4 * i) v ≡ inReach a v i
+    (i v : ℕ) → i < a .size → v < 256 → ((p : ℕ) → has (children (nodeAt a p)) i ≡ true → p < j) → marked table i v ≡ inReach a v i
 
 module _ (a : Array) (fit : refusal8 a ≡ clear) (once : refusal9 a ≡ clear) where
   pub filled-start : (n : ℕ) → Filled a (replicate n 0) 0
-  filled-start n i v h k above = marked-none n (4 * i) v ∙ go (decided (eqb i 0))
+  filled-start n i v h k above = marked-none n i v ∙ go (decided (eqb i 0))
     where
       go : (eqb i 0 ≡ true) ⊎ (eqb i 0 ≡ false) → false ≡ inReach a v i
       go (inl e) = rw (eqb-true i 0 e) (sym (reach-root a fit once v))
@@ -158,7 +158,7 @@ module _ (a : Array) (fit : refusal8 a ≡ clear) (once : refusal9 a ≡ clear) 
   filled-step before after j hj down filled i v h k above = down .rows i v k ∙ go (decided (has (children (nodeAt a j)) i))
     where
       go : (has (children (nodeAt a j)) i ≡ true) ⊎ (has (children (nodeAt a j)) i ≡ false)
-          → cond (has (children (nodeAt a j)) i) (marked before (4 * j) v || has (binds (nodeAt a j)) v) (marked before (4 * i) v) ≡ inReach a v i
+          → cond (has (children (nodeAt a j)) i) (marked before j v || has (binds (nodeAt a j)) v) (marked before i v) ≡ inReach a v i
       go (inl e) =
           rw e
           (ap (λ (b : Bool). b || has (binds (nodeAt a j)) v) (filled j v hj k (λ p q. child-above a fit p j q .0))
@@ -169,7 +169,7 @@ module _ (a : Array) (fit : refusal8 a ≡ clear) (once : refusal9 a ≡ clear) 
           earlier p q =
               ⊎-elim (λ (s : p ≡ j). absurd (false≢true (sym e ∙ (rw s at q)))) (λ (s : p < j). s) (eq-or-lt-of-le (omega (arith, above p q)))
 
-  pub filled-all : (table : List ℕ) (j : ℕ) → a .size ≤ j → Filled a table j → (i v : ℕ) → i < a .size → v < 256 → marked table (4 * i) v ≡ inReach a v i
+  pub filled-all : (table : List ℕ) (j : ℕ) → a .size ≤ j → Filled a table j → (i v : ℕ) → i < a .size → v < 256 → marked table i v ≡ inReach a v i
   filled-all table j l filled i v h k = filled i v h k (λ p q. let f = child-above a fit p i q in omega arith)
 
 -- ---- the test of refusal 12 by the table
@@ -189,9 +189,9 @@ module _ (s : List ℕ) (t : Trailer) (bytes : (k : ℕ) → getD s k 0 < 256) w
       go false b = tt
 
   -- where the table's rows are right, its marks answer for node i, whose record is r
-  pub uses-reached : (table : List ℕ) → ((i v : ℕ) → i < t .nodes → v < 256 → marked table (4 * i) v ≡ inReach (arrayOf s t) v i)
+  pub uses-reached : (table : List ℕ) → ((i v : ℕ) → i < t .nodes → v < 256 → marked table i v ≡ inReach (arrayOf s t) v i)
       → (i : ℕ) (r : Record) → i < t .nodes → r ≡ recordOf s t i
-      → all (marked table (4 * i)) (uses (nodeOf r)) ≡ all (λ v. inReach (arrayOf s t) v i) (uses (nodeAt (arrayOf s t) i))
+      → all (marked table i) (uses (nodeOf r)) ≡ all (λ v. inReach (arrayOf s t) v i) (uses (nodeAt (arrayOf s t) i))
   uses-reached table right i r h e =
       rw (node-read s t i r h e, e)
-      (all-same (λ v. v < 256) (marked table (4 * i)) (λ v. inReach (arrayOf s t) v i) (uses (nodeOf (recordOf s t i))) (uses-bytes i) (λ v k. right i v h k))
+      (all-same (λ v. v < 256) (marked table i) (λ v. inReach (arrayOf s t) v i) (uses (nodeOf (recordOf s t i))) (uses-bytes i) (λ v k. right i v h k))

@@ -6,7 +6,7 @@ use mathlib.Core.List.{List}
 use lib.Bits.{bitOr}
 use lib.ListN.{getD, set}
 use Rattle.laws.specs.Lists.{has}
-use Rattle.marks.specs.Marks.{marked}
+use Rattle.marks.specs.Marks.{wordAt, marked}
 use Rattle.model.specs.Tree.{Node}
 use Rattle.model.specs.Formed.{children, binds}
 use Rattle.records.specs.declared.Record.{Record}
@@ -22,7 +22,7 @@ unfoldable pub passed : List ℕ → ℕ → ℕ → List ℕ → ℕ → List �
 passed table from to bound zero = table
 passed table from to bound (suc n) =
     let before = passed table from to bound n in
-    set before (4 * to + n) (bitOr (getD before (4 * from + n) 0) (getD bound n 0))
+    set before (wordAt to n) (bitOr (getD before (wordAt from n) 0) (getD bound n 0))
 
 -- the same of all four words where the test is true
 unfoldable pub passIf : List ℕ → Bool → ℕ → ℕ → List ℕ → List ℕ
@@ -31,5 +31,5 @@ passIf table false from to bound = table
 
 -- a child of node j has the marks of node j and of what it binds; every other row is as it was
 pub record HandedDown (before after : List ℕ) (j : ℕ) (n : Node) : Type 0 where
-  pub rows : (i v : ℕ) → v < 256 → marked after (4 * i) v
-      ≡ cond (has (children n) i) (marked before (4 * j) v || has (binds n) v) (marked before (4 * i) v)
+  pub rows : (i v : ℕ) → v < 256 → marked after i v
+      ≡ cond (has (children n) i) (marked before j v || has (binds n) v) (marked before i v)

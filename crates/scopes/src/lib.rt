@@ -9,7 +9,7 @@ ghost use Rattle.laws.specs.Search.{clear};
 ghost use Rattle.laws.specs.Lists.{all, has};
 ghost use Rattle.model.specs.Formed.{children, binds, uses, inReach, refusal8, refusal9, refusal12};
 ghost use Rattle.records.specs.Record.{RecordsFit, argsOf, nodeOf, arrayOf, foundOf};
-ghost use Rattle.marks.specs.Marks.{marked};
+ghost use Rattle.marks.specs.Marks.{HasRow, marked};
 ghost use Rattle.scopes.specs.Scope.{passed, passIf, HandedDown};
 use records::Check;
 use records::Record;
@@ -42,19 +42,20 @@ pub fn bound_by(r: Record) -> [u64; 4]
 
 // Child `to` of node `from` has the marks of its parent and of what its parent binds.
 fn pass_down(table: &mut [u64], from: usize, to: usize, bound: [u64; 4])
-    requires { ⌜ (from < to) × (4 * to + 3 < length (now table)) ⌝ }
+    requires { ⌜ (from < to) × HasRow (now table) to ⌝ }
     ensures { λ _. ⌜ now (table .exit) ≡ passed (now (table .entry)) from to bound 4 ⌝ }
 {
     let mut w: usize = 0;
     while w < 4 {
-        table[4 * to + w] = table[4 * from + w] | bound[w];
+        let above = marks::word_at(table, from, w);
+        marks::set_word(table, to, w, above | bound[w]);
         w += 1;
     }
 }
 
 // The same where `on` is true.
 fn pass_if(table: &mut [u64], on: bool, from: usize, to: usize, bound: [u64; 4])
-    requires { ⌜ (on ≡ true → (from < to) × (4 * to + 3 < length (now table))) ⌝ }
+    requires { ⌜ (on ≡ true → (from < to) × HasRow (now table) to) ⌝ }
     ensures { λ _. ⌜ now (table .exit) ≡ passIf (now (table .entry)) on from to bound ⌝ }
 {
     if on {
@@ -65,7 +66,7 @@ fn pass_if(table: &mut [u64], on: bool, from: usize, to: usize, bound: [u64; 4])
 // The children of node j, whose record is r, have the marks of node j and of what it binds.
 fn pass_children(table: &mut [u64], j: usize, r: Record)
     requires { ⌜ r .name < 256 ⌝ }
-    requires { ⌜ ((c : ℕ) → has (children (nodeOf r)) c ≡ true → (j < c) × (4 * c + 3 < length (now table))) ⌝ }
+    requires { ⌜ ((c : ℕ) → has (children (nodeOf r)) c ≡ true → (j < c) × HasRow (now table) c) ⌝ }
     ensures { λ _. ⌜ HandedDown (now (table .entry)) (now (table .exit)) j (nodeOf r) ⌝ }
 {
     let bound = bound_by(r);
@@ -73,11 +74,11 @@ fn pass_children(table: &mut [u64], j: usize, r: Record)
     pass_if(table, records::branches(r), j, r.right, bound);
 }
 
-// The names that reach each node, marked in rows of four words of a list that has no marks.
+// The names that reach each node, marked in a row for each, of a list that has no marks.
 fn fill_scopes(table: &mut [u64], file: &[u8], t: Trailer)
     requires { ⌜ RecordsFit (now file) t × (t .nodes ≤ 1024) × (now table ≡ replicate 4096 0) ⌝ }
     requires { ⌜ (refusal8 (arrayOf (now file) t) ≡ clear) × (refusal9 (arrayOf (now file) t) ≡ clear) ⌝ }
-    ensures { λ _. ⌜ ((i v : ℕ) → i < t .nodes → v < 256 → marked (now (table .exit)) (4 * i) v ≡ inReach (arrayOf (now (file .entry)) t) v i) ⌝ }
+    ensures { λ _. ⌜ ((i v : ℕ) → i < t .nodes → v < 256 → marked (now (table .exit)) i v ≡ inReach (arrayOf (now (file .entry)) t) v i) ⌝ }
 {
     let mut j: usize = 0;
     while j < t.nodes {
@@ -87,35 +88,35 @@ fn fill_scopes(table: &mut [u64], file: &[u8], t: Trailer)
     }
 }
 
-// The arguments are marked in the row at `at`.
-fn args_marked(table: &[u64], at: usize, r: Record) -> bool
-    requires { ⌜ at + 3 < length (now table) ⌝ }
-    ensures { λ b. ⌜ b ≡ all (marked (now (table .entry)) at) (argsOf r) ⌝ }
+// The arguments are marked in row i.
+fn args_marked(table: &[u64], i: usize, r: Record) -> bool
+    requires { ⌜ HasRow (now table) i ⌝ }
+    ensures { λ b. ⌜ b ≡ all (marked (now (table .entry)) i) (argsOf r) ⌝ }
 {
     let args = r.args;
     let mut found = true;
     let mut k: usize = 0;
     while k < 8 {
-        let here = marks::is_marked(table, at, wire::byte_index(args[k]));
+        let here = marks::is_marked(table, i, wire::byte_index(args[k]));
         found = found & ((r.arity <= k) | here);
         k += 1;
     }
     found
 }
 
-// The names that a record uses are marked in the row at `at`.
-fn uses_marked(table: &[u64], at: usize, r: Record) -> bool
-    requires { ⌜ (at + 3 < length (now table)) × (r .name < 256) ⌝ }
-    ensures { λ b. ⌜ b ≡ all (marked (now (table .entry)) at) (uses (nodeOf r)) ⌝ }
+// The names that a record uses are marked in row i.
+fn uses_marked(table: &[u64], i: usize, r: Record) -> bool
+    requires { ⌜ HasRow (now table) i × (r .name < 256) ⌝ }
+    ensures { λ b. ⌜ b ≡ all (marked (now (table .entry)) i) (uses (nodeOf r)) ⌝ }
 {
     if !records::is_agent(r) {
         return true;
     }
     if records::sends(r) {
-        let args = args_marked(table, at, r);
-        return marks::is_marked(table, at, r.name) & args;
+        let args = args_marked(table, i, r);
+        return marks::is_marked(table, i, r.name) & args;
     }
-    marks::is_marked(table, at, r.name)
+    marks::is_marked(table, i, r.name)
 }
 
 // Refusal 12.
@@ -129,7 +130,7 @@ pub fn bad_reach(file: &[u8], t: Trailer) -> Check
     let mut i: usize = 0;
     while i < t.nodes {
         let r = records::node_at(file, t, i);
-        if !uses_marked(&table, 4 * i, r) {
+        if !uses_marked(&table, i, r) {
             return Check::Refused(Refusal {
                 number: 12,
                 place: i,

@@ -15,14 +15,14 @@ use Rattle.arrays.specs.declared.ArrayAnswer.the-variants as A
 use Rattle.arrays.specs.File.{trailerOf, arrayRefusal, readArray}
 use Rattle.arrays.proofs.Laws.{read-passes, read-refuses}
 use Rattle.layout.specs.declared.Sizes.{Sizes}
-use Rattle.layout.specs.Table.{claimAt, sizesOf, lengthFits, countsFit, startsFit, partsFit, IsTable}
+use Rattle.layout.specs.Table.{claimAt, sizesOf, tableLengthFits, tableCountsFit, startsFit, partsFit, IsTable}
 use Rattle.tables.specs.declared.TableAnswer.the-variants.{Refused}
-use Rattle.tables.specs.Read.{tableRefusal, answer, readTable}
+use Rattle.tables.specs.Read.{tableRefusal, sizesAnswer, readTable}
 
-pub length-fits : (s : List ℕ) → lengthFits s ≡ true → 28 ≤ length s
+pub length-fits : (s : List ℕ) → tableLengthFits s ≡ true → 28 ≤ length s
 length-fits s e = leb-true _ _ (and-split (leb 28 (length s)) _ (and-split (leb 28 (length s) && leb (length s) 59516) _ e .0) .0)
 
-pub counts-fit : (z : Sizes) → countsFit z ≡ true → (z .balances ≤ 24) × (z .claims ≤ 256)
+pub counts-fit : (z : Sizes) → tableCountsFit z ≡ true → (z .balances ≤ 24) × (z .claims ≤ 256)
 counts-fit z e = let c = and-split (leb (z .balances) 24) (leb (z .claims) 256) e in (leb-true _ _ (c .0), leb-true _ _ (c .1))
 
 pub parts-fill : (s : List ℕ) (z : Sizes) → partsFit s z ≡ true → claimAt z (z .claims) + 28 ≡ length s
@@ -61,13 +61,15 @@ passed-table f t s e =
 module _ (f s : List ℕ) where
   pub array-refused : (r : Refusal) → readArray f ≡ A.Refused r → Refused r ≡ readTable f s
   unfolding readTable
-  array-refused r e = ap (λ x. answer x (sizesOf (trailerOf f) s)) (sym (hit-andThen (arrayRefusal f) (tableRefusal f (trailerOf f) s) _ (read-refuses f r e)))
+  array-refused r e =
+      ap (λ x. sizesAnswer x (sizesOf (trailerOf f) s))
+      (sym (hit-andThen (arrayRefusal f) (tableRefusal f (trailerOf f) s) _ (read-refuses f r e)))
 
   pub array-read : (t : Trailer) (x : Found F.Refusal) (z : Sizes) → readArray f ≡ A.Read t → x ≡ tableRefusal f t s → z ≡ sizesOf t s
-      → answer x z ≡ readTable f s
+      → sizesAnswer x z ≡ readTable f s
   unfolding readTable
   array-read t x z e found size =
       let p = read-passes f t e in
-      ap₂ answer
+      ap₂ sizesAnswer
       (found ∙ ap (λ u. tableRefusal f u s) (sym (p .1)) ∙ sym (clear-andThen (arrayRefusal f) (tableRefusal f (trailerOf f) s) (p .0)))
       (size ∙ ap (λ u. sizesOf u s) (sym (p .1)))

@@ -28,12 +28,12 @@ tableRefusal f t s =
 abbrev pub filesRefusal : List ℕ → List ℕ → Found F.Refusal
 filesRefusal f s = andThen (arrayRefusal f) (tableRefusal f (trailerOf f) s)
 
-abbrev pub answer : Found F.Refusal → Sizes → TableAnswer
-answer clear z = Read z
-answer (hit r) z = Refused record { number = r .number; place = r .place }
+abbrev pub sizesAnswer : Found F.Refusal → Sizes → TableAnswer
+sizesAnswer clear z = Read z
+sizesAnswer (hit r) z = Refused record { number = r .number; place = r .place }
 
 unfoldable pub readTable : List ℕ → List ℕ → TableAnswer
-readTable f s = answer (filesRefusal f s) (sizesOf (trailerOf f) s)
+readTable f s = sizesAnswer (filesRefusal f s) (sizesOf (trailerOf f) s)
 
 -- ---- the rest of the search, from a refusal on
 

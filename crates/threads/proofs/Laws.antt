@@ -80,9 +80,9 @@ module _ (a : Array) (k at : ℕ) (l : List ℕ) (i : ℕ) (here : i ≡ getD l 
         sym (by-words ∙ ap₂ (λ (b d : Bool). b && (d && namesTest)) agent (lt-leb (getD l (at + 1) 0) k h))
 
     pub names-tell : (frees news : List ℕ) → AllFree frees a → ((o : ℕ) → marked news 0 o ≡ isNew a o) → i < a .size → a .names ≤ 256 → getD l (at + 1) 0 ≤ k
-        → every (a .names) (λ v. wordOk (marked news 0) k (marked frees (4 * i) v) (getD l (at + 2 + v) 0)) ≡ threadFormed a k (threadIn (a .names) (drop at l))
+        → every (a .names) (λ v. wordOk (marked news 0) k (marked frees i v) (getD l (at + 2 + v) 0)) ≡ threadFormed a k (threadIn (a .names) (drop at l))
     names-tell frees news free new h few m =
         every-same (a .names) _ _
-        (λ v lt. word-same a (marked news 0) k (marked frees (4 * i) v) (getD l (at + 2 + v) 0) new
+        (λ v lt. word-same a (marked news 0) k (marked frees i v) (getD l (at + 2 + v) 0) new
         ∙ ap (λ (b : Bool). wordFormed a k b (getD l (at + 2 + v) 0)) (free i v h (omega arith)))
         ∙ sym (by-words ∙ ap₂ (λ (b d : Bool). b && (d && namesTest)) agent (le-leb (getD l (at + 1) 0) k m))

@@ -6,7 +6,7 @@ ghost use Prim.Native.Nat.{ℕ, _+_, _*_, _<_, _≤_};
 ghost use lib.ListN.{length, getD, take, drop};
 ghost use Rattle.laws.specs.Search.{every};
 ghost use Rattle.laws.specs.Lists.{All, put};
-ghost use Rattle.marks.specs.Marks.{marked};
+ghost use Rattle.marks.specs.Marks.{HasRow, marked};
 ghost use Rattle.model.specs.Tree.{isNew};
 ghost use Rattle.model.specs.Calculus.{bind, keep};
 ghost use Rattle.model.specs.Memory.{threadIn, threadsIn, wordsOf, threadFormed};
@@ -133,13 +133,13 @@ fn names_formed(
     threads: &[u32],
     at: usize,
 ) -> bool
-    requires { ⌜ (4 * i + 3 < length (now frees)) × (length (now news) ≡ 4) × (names ≤ 256) × (at + names ≤ length (now threads)) ⌝ }
+    requires { ⌜ HasRow (now frees) i × (length (now news) ≡ 4) × (names ≤ 256) × (at + names ≤ length (now threads)) ⌝ }
     ensures { λ b. ⌜ b ≡ every names (λ v.
-        wordOk (marked (now (news .entry)) 0) marks (marked (now (frees .entry)) (4 * i) v) (getD (now (threads .entry)) (at + v) 0)) ⌝ }
+        wordOk (marked (now (news .entry)) 0) marks (marked (now (frees .entry)) i v) (getD (now (threads .entry)) (at + v) 0)) ⌝ }
 {
     let mut v: usize = 0;
     while v < names {
-        let free = marks::is_marked(frees, 4 * i, v);
+        let free = marks::is_marked(frees, i, v);
         if !word_formed(news, marks, free, threads[at + v]) {
             return false;
         }

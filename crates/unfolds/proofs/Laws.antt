@@ -159,13 +159,13 @@ module _ {s : List ℕ} {t : Trailer} {i : ℕ} {r : Record} (a : Stands s t i r
     -- an agent's thread, its names cut by its row of marks, written where there is room
     pub written-agent : isAgent (nodeOf r) ≡ true → length env ≡ t .names → (frees : List ℕ) {l l′ : List ℕ} {k end : ℕ} → AllFree frees (arrayOf s t)
         → (k * (2 + length env) + (2 + length env) ≤ length l
-        → l′ ≡ put (k * (2 + length env)) (i ∷ m ∷ cutFrom (words []) (marked frees (4 * i)) 0 env) l)
+        → l′ ≡ put (k * (2 + length env)) (i ∷ m ∷ cutFrom (words []) (marked frees i) 0 env) l)
         → end ≡ min 257 (k + 1) → Written (2 + t .names) (unfolded s t ch i m env) l l′ k end
     unfolding wordsOf
     written-agent g names frees {l} {l′} {k} {end} free placed e =
         let few = a .0 .formed .fewNames in
         let one : length (unfolded s t ch i m env) ≡ 1 = ap length (unfolded-agent g) in
-        let ws : wordsOf (unfolded s t ch i m env) ≡ i ∷ m ∷ cutFrom (words []) (marked frees (4 * i)) 0 env =
+        let ws : wordsOf (unfolded s t ch i m env) ≡ i ∷ m ∷ cutFrom (words []) (marked frees i) 0 env =
         ap wordsOf (unfolded-agent g) ∙ append-nil (i ∷ m ∷ cutFrom (words []) (isFree (procAt (arrayOf s t) i)) 0 env)
         ∙ ap (λ (xs : List ℕ). i ∷ m ∷ xs) (cut-same (words []) _ _ 0 env (λ v h j. sym (free i v (a .1 .below) (omega arith)))) in
         record {

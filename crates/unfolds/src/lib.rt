@@ -6,7 +6,7 @@ ghost use mathlib.Core.List.{[], _∷_};
 ghost use Prim.Native.Nat.{_+_, _*_, _/_, _<_, _≤_, min};
 ghost use lib.ListN.{length};
 ghost use Rattle.laws.specs.Lists.{put};
-ghost use Rattle.marks.specs.Marks.{marked};
+ghost use Rattle.marks.specs.Marks.{HasRow, marked};
 ghost use Rattle.model.specs.Calculus.{choicesOf, cutFrom};
 ghost use Rattle.model.specs.Memory.{words, opening};
 ghost use Rattle.unfolds.specs.Unfold.{Prepared, Unfolds, unfolded, Written};
@@ -42,14 +42,14 @@ fn word_if(on: bool, x: u32) -> u32
     0
 }
 
-// Writes the words of the names from index `at` on, cut to those marked in the row at `row`.
-fn write_names(frees: &[u64], row: usize, env: &[u32], threads: &mut [u32], at: usize)
-    requires { ⌜ (row + 3 < length (now frees)) × (length (now env) ≤ 256) × (at + length (now env) ≤ length (now threads)) ⌝ }
-    ensures { λ _. ⌜ now (threads .exit) ≡ put at (cutFrom (words []) (marked (now (frees .entry)) row) 0 (now (env .entry))) (now (threads .entry)) ⌝ }
+// Writes the words of the names from index `at` on, cut to those marked in row i.
+fn write_names(frees: &[u64], i: usize, env: &[u32], threads: &mut [u32], at: usize)
+    requires { ⌜ HasRow (now frees) i × (length (now env) ≤ 256) × (at + length (now env) ≤ length (now threads)) ⌝ }
+    ensures { λ _. ⌜ now (threads .exit) ≡ put at (cutFrom (words []) (marked (now (frees .entry)) i) 0 (now (env .entry))) (now (threads .entry)) ⌝ }
 {
     let mut v: usize = 0;
     while v < env.len() {
-        let on = marks::is_marked(frees, row, v);
+        let on = marks::is_marked(frees, i, v);
         threads[at + v] = word_if(on, env[v]);
         v += 1;
     }
@@ -57,21 +57,21 @@ fn write_names(frees: &[u64], row: usize, env: &[u32], threads: &mut [u32], at: 
 
 // Writes a thread of node i from index `at` on.
 fn write_thread(frees: &[u64], i: usize, mark: u32, env: &[u32], threads: &mut [u32], at: usize)
-    requires { ⌜ (4 * i + 3 < length (now frees)) × (i < 1024) × (length (now env) ≤ 256) × (at + 2 + length (now env) ≤ length (now threads)) ⌝ }
+    requires { ⌜ HasRow (now frees) i × (i < 1024) × (length (now env) ≤ 256) × (at + 2 + length (now env) ≤ length (now threads)) ⌝ }
     ensures { λ _. ⌜ now (threads .exit)
-        ≡ put at (i ∷ mark ∷ cutFrom (words []) (marked (now (frees .entry)) (4 * i)) 0 (now (env .entry))) (now (threads .entry)) ⌝ }
+        ≡ put at (i ∷ mark ∷ cutFrom (words []) (marked (now (frees .entry)) i) 0 (now (env .entry))) (now (threads .entry)) ⌝ }
 {
     threads[at] = i as u32;
     threads[at + 1] = mark;
-    write_names(frees, 4 * i, env, threads, at + 2);
+    write_names(frees, i, env, threads, at + 2);
 }
 
 // Writes it as thread k of the list, where there is room.
 fn place_thread(frees: &[u64], i: usize, mark: u32, env: &[u32], threads: &mut [u32], k: usize)
-    requires { ⌜ (4 * i + 3 < length (now frees)) × (i < 1024) × (length (now env) ≤ 256) × (k ≤ 257) ⌝ }
+    requires { ⌜ HasRow (now frees) i × (i < 1024) × (length (now env) ≤ 256) × (k ≤ 257) ⌝ }
     ensures { λ _. ⌜ (k * (2 + length (now (env .entry))) + (2 + length (now (env .entry))) ≤ length (now (threads .entry)) → now (threads .exit)
         ≡ put (k * (2 + length (now (env .entry))))
-        (i ∷ mark ∷ cutFrom (words []) (marked (now (frees .entry)) (4 * i)) 0 (now (env .entry))) (now (threads .entry))) ⌝ }
+        (i ∷ mark ∷ cutFrom (words []) (marked (now (frees .entry)) i) 0 (now (env .entry))) (now (threads .entry))) ⌝ }
 {
     let width = 2 + env.len();
     let at = k * width;

@@ -11,7 +11,7 @@ returns c = (
     c .before .before .before .before .u16-at .ensures,
     c .before .before .before .u16-at2 .ensures,
     c .before .before .u32-at2 .ensures,
-    c .form-of .ensures,
+    c .array-form .ensures,
     c .before .u32-at3 .ensures,
   ),
   c .before .before .before .before .before .word-index .ensures .1,

@@ -19,7 +19,7 @@ use Rattle.flows.proofs.bad_row.Tie as tie
 
 abbrev Inv-loop : tie.InvT-loop
 Inv-loop file table z news rows v₀ v =
-    (v ≤ z .names) × (first v (check rows news) ≡ clear) × ((u o : ℕ) → u < z .names → o < 256 → marked rows (4 * u) o ≡ rowBit table z u o)
+    (v ≤ z .names) × (first v (check rows news) ≡ clear) × ((u o : ℕ) → u < z .names → o < 256 → marked rows u o ≡ rowBit table z u o)
     × (length rows ≡ 1024)
 
 abbrev μ-loop : tie.MeasureT-loop
@@ -30,7 +30,7 @@ begun l = l .before .before .before .before .before .before .before
 
 -- the search of all rows is refusal 19
 searched : (l : tie.At-loop Inv-loop μ-loop) (rows : List ℕ) → let x = begun l .args in
-    ((u o : ℕ) → u < x .z .names → o < 256 → marked rows (4 * u) o ≡ rowBit (now (x .table)) (x .z) u o)
+    ((u o : ℕ) → u < x .z .names → o < 256 → marked rows u o ≡ rowBit (now (x .table)) (x .z) u o)
     → first (x .z .names) (check rows (l .before .before .before .before .opened .result)) ≡ refusal19 (arrayOf (now (x .file)) (x .t)) (now (x .table)) (x .z)
 searched l rows bits =
     let x = begun l .args in
@@ -63,4 +63,4 @@ bad-row-spec =
     tie.close
     (tie.spec
     Inv-loop μ-loop (λ c κs. search needs) (λ c. search needs) (λ c κs. search needs) loop-holds (λ c. search needs) (λ c. search needs)
-    (λ c. search needs) (λ c κs. search needs) returns (λ c. search needs) (λ c. search needs) loop-again returns-2)
+    (λ c κs. search needs) returns (λ c. search needs) (λ c. search needs) loop-again returns-2)

@@ -14,18 +14,18 @@ use Rattle.flows.proofs.flow_rows.Statement.{statement}
 use Rattle.flows.proofs.flow_rows.Tie as tie
 
 abbrev Inv-loop : tie.InvT-loop
-Inv-loop rows₀ table z i₀ rows i =
-    (i ≤ 4 * z .names) × (length rows ≡ 1024) × ((k : ℕ) → k < i → getD rows k 0 ≡ u64At table (8 * k))
+Inv-loop rows₀ table end i₀ rows i =
+    (8 * i ≤ end) × (length rows ≡ 1024) × ((k : ℕ) → k < i → getD rows k 0 ≡ u64At table (8 * k))
 
 abbrev μ-loop : tie.MeasureT-loop
-μ-loop rows₀ table z i₀ rows i = 4 * z .names - i
+μ-loop rows₀ table end i₀ rows i = end - 8 * i
 
 loop-holds : tie.Need-loop-holds Inv-loop μ-loop
-loop-holds c = (omega arith, c .before .before .pre .0, below-none _)
+loop-holds c = (omega arith, c .before .before .before .pre .0, below-none _)
 
 loop-again : tie.Need-loop-again Inv-loop μ-loop
 loop-again c =
-    let l = c .before .before .before .loop in
+    let l = c .before .before .loop in
     let n = c .u64-at in (
       omega arith,
       length-set (l .rows) _ _ ∙ l .inv .1,
@@ -35,7 +35,7 @@ loop-again c =
 
 returns : tie.Need-returns Inv-loop μ-loop
 returns c v o h k =
-    let l = c .before .before .loop in
+    let l = c .before .loop in
     let x = c .before .before .before .before .before .args in
     let known = c .before .before .before .shared-slice-known .given in
     let e : l .i ≡ 4 * x .z .names = omega arith in
@@ -45,5 +45,5 @@ pub flow-rows-spec : {M : Type 1} → statement M
 flow-rows-spec =
     tie.close
     (tie.spec
-    Inv-loop μ-loop loop-holds (λ c. search needs) (λ c. search needs) (λ c κs. search needs) (λ c. search needs) (λ c. search needs)
-    (λ c. search needs) (λ c. search needs) loop-again (λ c. search needs) returns)
+    Inv-loop μ-loop (λ c κs. search needs) loop-holds (λ c. search needs) (λ c. search needs) (λ c κs. search needs) (λ c. search needs)
+    (λ c. search needs) (λ c. search needs) (λ c. search needs) loop-again (λ c. search needs) returns)

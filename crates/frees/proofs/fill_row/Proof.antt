@@ -1,10 +1,11 @@
 -- `frees::fill_row` meets its contract. The loop's invariant: the first w words of row i are right, and every word outside row i is as it was.
 use Prim.Native.Nat.{_+_, _*_, _-_, _≤_, _<_}
 use native.Mathlib.Omega.{arith}
-use mathlib.Core.Path.{_≡_, refl, _∙_}
+use mathlib.Core.Path.{_≡_, refl, ap, _∙_}
 use denote.Ref.{now}
 use lib.ListN.{length, length-set}
 use borrow.Author.Needs.{needs}
+use Rattle.marks.specs.Marks.{wordAt}
 use Rattle.records.specs.Record.{nodeOf}
 use Rattle.frees.proofs.Laws.{SameElse, RowTo, else-set, row-set, row-filled}
 use Rattle.frees.proofs.fill_row.Statement.{statement}
@@ -27,19 +28,22 @@ below-requires c κs =
 
 loop-again : tie.Need-loop-again Inv-loop μ-loop
 loop-again c =
-    let x = c .before .before .before .before .before .before .before .args in
-    let p = c .before .before .before .before .before .before .before .pre in
-    let l = c .before .before .before .loop in
+    let at = c .before .before .before .before .before .before .before in
+    let s = at .before .before .before .before in
+    let x = s .args in
+    let l = at .loop in
     let few : l .w < 4 = omega arith in
-    let fits : 4 * x .i + l .w < length (l .frees) = omega arith in
-    let used = c .before .before .before .before .before .used-by in
-    let bound = c .before .before .before .before .bound-by in
-    let inside = c .below in (
+    let fits : wordAt (x .i) (l .w) < length (l .frees) = omega arith in
+    let used = at .before .before .used-by in
+    let bound = at .before .bound-by in
+    let inside = c .before .before .before .before .below in
+    let e = c .before .before .set-word .ensures in (
       omega arith,
-      length-set (l .frees) _ _ ∙ l .inv .1,
-      else-set (now (x .frees)) (l .frees) (x .i) (l .w) few (l .inv .2) _,
-      row-set (now (x .frees)) (l .frees) (x .i) (l .w) few (l .inv .2) fits (nodeOf (x .r)) (λ n h. p .2 n h .0)
-          (used .result) (bound .result) (used .ensures) (bound .ensures) (inside .result) (inside .ensures) (l .inv .3),
+      ap length e ∙ length-set (l .frees) _ _ ∙ l .inv .1,
+      rw e (else-set (now (x .frees)) (l .frees) (x .i) (l .w) few (l .inv .2) _),
+      rw e
+          (row-set (now (x .frees)) (l .frees) (x .i) (l .w) few (l .inv .2) fits (nodeOf (x .r)) (λ n h. s .pre .2 n h .0) (used .result) (bound .result)
+          (used .ensures) (bound .ensures) (inside .result) (inside .ensures) (l .inv .3)),
     )
 
 returns : tie.Need-returns Inv-loop μ-loop
@@ -54,5 +58,4 @@ fill-row-spec =
     tie.close
     (tie.spec
     Inv-loop μ-loop (λ c κs. search needs) (λ c κs. search needs) loop-holds below-requires (λ c. search needs) (λ c. search needs)
-    (λ c. search needs) (λ c. search needs) (λ c. search needs) (λ c. search needs) (λ c. search needs) (λ c. search needs) (λ c. search needs)
-    (λ c. search needs) loop-again (λ c. search needs) returns)
+    (λ c. search needs) (λ c. search needs) (λ c κs. search needs) (λ c. search needs) (λ c. search needs) loop-again (λ c. search needs) returns)

@@ -31,7 +31,10 @@ loop-holds : tie.Need-loop-holds Inv-loop μ-loop
 loop-holds c = (omega arith, refl, λ o. marked-none 4 0 o ∙ sym (any-zero _))
 
 mark-if-requires : tie.Need-mark-if-requires Inv-loop μ-loop
-mark-if-requires c κs = (search needs, name-small (c .before .before))
+mark-if-requires c κs =
+    let size = c .before .before .before .before .before .loop .inv .1 in
+    let name = name-small (c .before .before) in
+    omega arith
 
 loop-again : tie.Need-loop-again Inv-loop μ-loop
 loop-again c =

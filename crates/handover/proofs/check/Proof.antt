@@ -5,7 +5,7 @@ use Rattle.arrays.specs.declared.ArrayAnswer.the-variants as A
 use Rattle.arrays.specs.File.{readArray}
 use Rattle.arrays.proofs.Laws.{read-is}
 use Rattle.laws.proofs.Search.{test-clear, andThen-split}
-use Rattle.layout.specs.Table.{lengthFits, IsTable}
+use Rattle.layout.specs.Table.{tableLengthFits, IsTable}
 use Rattle.records.specs.Record.{foundOf}
 use Rattle.records.proofs.Checks.{passes}
 use Rattle.tables.proofs.Laws.{length-fits, passed-table}
@@ -39,7 +39,7 @@ read-sizes-requires c κs =
     let t = c .before .before .before .before .t .given .0 .0 in
     let e : readArray f ≡ A.Read t = sym (c .before .before .before .before .before .before .read-array .ensures)
     ∙ c .before .before .before .before .t .given .1 in
-    length-fits s (test-clear (lengthFits s) _
+    length-fits s (test-clear (tableLengthFits s) _
     (andThen-split _ _ (passes (c .before .before .check-table .result) (c .before .before .check-table .ensures) (c .enum-told .given .1)) .0))
 
 judge-requires : tie.Need-judge-requires

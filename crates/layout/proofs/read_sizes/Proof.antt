@@ -5,7 +5,7 @@ use Rattle.layout.proofs.read_sizes.Tie as tie
 
 returns : tie.Need-returns
 returns c =
-    simp (c .before .before .before .u16-at .ensures, c .before .before .u16-at2 .ensures, c .before .u32-at .ensures, c .form-of .ensures)
+    simp (c .before .before .before .u16-at .ensures, c .before .before .u16-at2 .ensures, c .before .u32-at .ensures, c .table-form .ensures)
 
 pub read-sizes-spec : {M : Type 1} → statement M
 read-sizes-spec =

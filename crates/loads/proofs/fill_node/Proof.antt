@@ -8,7 +8,7 @@ use Rattle.layout.specs.Table.{balanceAt, weightAt, tableOf}
 use Rattle.layout.proofs.Laws.{balance-fits}
 use Rattle.wire.proofs.Laws.{u16-small}
 use Rattle.records.proofs.Laws.{child-of}
-use Rattle.loads.specs.Loads.{entryOf, loadFrom}
+use Rattle.loads.specs.Loads.{entryIndex, loadFrom}
 use Rattle.loads.proofs.Laws.{SameAbove, RowTo, above-set, row-set, half-child, filled-row}
 use borrow.Author.Needs.{needs}
 use native.Mathlib.Omega.{arith}
@@ -76,7 +76,7 @@ loop-again c =
     let weight : ℕ → ℕ = λ m. weightAt (now (x .table)) (balanceAt (x .z) m) (x .i) in
     let here = w .u16-at .ensures ∙ ap (λ (n : ℕ). weightAt (now (x .table)) n (x .i)) (w .before .balance-at .ensures) in
     let few : l .loop .k < 24 = omega arith in
-    let fits : entryOf (x .i) (l .loop .k) < length (l .loop .loads) = omega arith in
+    let fits : entryIndex (x .i) (l .loop .k) < length (l .loop .loads) = omega arith in
     let v = c .before .load-of .result in
     rw (c .entry .ensures) (
       omega arith,

@@ -51,8 +51,11 @@ returns c =
     let k = c .before .before .before .before .before .before .loop .k in
     sym (false-every (x .count) (unlike (entriesIn (x .count) (now (x .markers)))) k (omega arith) (tested (c .before) ∙ ap not (c .if1 .taken)))
 
-see-requires : tie.Need-see-requires Inv-loop μ-loop
-see-requires c κs = (c .before .before .before .before .before .before .before .loop .inv .1, c .before .before .before .before .slot-of .ensures .1)
+mark-if-requires : tie.Need-mark-if-requires Inv-loop μ-loop
+mark-if-requires c κs =
+    let size = c .before .before .before .before .before .before .before .loop .inv .1 in
+    let slot = c .before .before .before .before .slot-of .ensures .1 in
+    omega arith
 
 loop-again : tie.Need-loop-again Inv-loop μ-loop
 loop-again c =
@@ -60,7 +63,7 @@ loop-again c =
     let slot = searched .before .before .slot-of in
     let l = searched .before .before .before .before .before in
     let x = l .before .before .args in
-    let s = c .before .see .ensures in
+    let s = c .before .mark-if .ensures in
     let place = slot .ensures .0 ∙ ap slotOf (searched .before .before .before .entry-at .ensures) in
     let new = tested searched ∙ ap not (c .before .before .before .if1 .left) in (
       omega arith,
@@ -81,4 +84,4 @@ entries-unlike-spec =
     tie.close
     (tie.spec
     Inv-loop μ-loop loop-holds (λ c κs. search needs) (λ c κs. search needs) (λ c. search needs) is-listed-requires returns (λ c. search needs)
-    see-requires (λ c. search needs) (λ c. search needs) loop-again returns-2)
+    mark-if-requires (λ c. search needs) (λ c. search needs) loop-again returns-2)

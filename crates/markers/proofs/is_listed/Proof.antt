@@ -21,7 +21,7 @@ returns-2 c =
     let p = c .before .before .before .before .pre in
     sym
     (unseen (now (x .seen)) (now (x .markers)) (x .k) (p .1 .1) (entryOf (x .e))
-    (ap (marked (now (x .seen)) 0) (sym (p .0 .2)) ∙ sym (c .before .is-seen .ensures) ∙ c .if1 .left))
+    (ap (marked (now (x .seen)) 0) (sym (p .0 .2)) ∙ sym (c .before .is-marked .ensures) ∙ c .if1 .left))
 
 pub is-listed-spec : {M : Type 1} → statement M
 is-listed-spec = tie.close (tie.spec (λ c κs. search needs) (λ c κs. search needs) returns returns-2)

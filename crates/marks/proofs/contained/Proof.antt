@@ -10,8 +10,4 @@ returns c =
     cc (inside-words (x .one .now) (x .u) (x .other .now) (x .v))
 
 pub contained-spec : {M : Type 1} → statement M
-contained-spec =
-    tie.close
-    (tie.spec
-    (λ c κs. search needs) (λ c. search needs) (λ c. search needs) (λ c κs. search needs) (λ c. search needs) (λ c. search needs)
-    (λ c κs. search needs) (λ c. search needs) (λ c. search needs) (λ c κs. search needs) returns)
+contained-spec = tie.close (tie.spec (λ c κs. search needs) (λ c κs. search needs) (λ c κs. search needs) (λ c κs. search needs) returns)

@@ -3,15 +3,17 @@ use native.Mathlib.Omega.{arith}
 use lib.ListN.{getD}
 use borrow.Author.Needs.{needs}
 use Rattle.laws.proofs.Bits.{and-whole}
-use Rattle.marks.specs.Marks.{wordInside}
+use Rattle.marks.specs.Marks.{wordAt, wordInside}
 use Rattle.marks.proofs.word_inside.Statement.{statement}
 use Rattle.marks.proofs.word_inside.Tie as tie
 
 returns : tie.Need-returns
 unfolding wordInside
 returns c =
-    let x = c .before .before .args in
-    and-whole 64 (getD (x .one .now) (x .u) 0) (getD (x .other .now) (x .v) 0) (omega (arith, c .before .shared-slice-known .given (x .u)))
+    let x = c .before .before .before .before .args in
+    let one = getD (x .one .now) (wordAt (x .u) (x .w)) 0 in
+    let other = getD (x .other .now) (wordAt (x .v) (x .w)) 0 in
+    rw (c .before .word-at .ensures, c .word-at2 .ensures) (and-whole 64 one other (omega (arith, c .before .before .before .shared-slice-known .given (wordAt (x .u) (x .w)))))
 
 pub word-inside-spec : {M : Type 1} → statement M
-word-inside-spec = tie.close (tie.spec (λ c. search needs) (λ c. search needs) (λ c. search needs) (λ c. search needs) returns)
+word-inside-spec = tie.close (tie.spec (λ c κs. search needs) (λ c κs. search needs) returns)

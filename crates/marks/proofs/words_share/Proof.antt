@@ -3,15 +3,17 @@ use native.Mathlib.Omega.{arith}
 use lib.ListN.{getD}
 use borrow.Author.Needs.{needs}
 use Rattle.laws.proofs.Bits.{and-some}
-use Rattle.marks.specs.Marks.{wordsShare}
+use Rattle.marks.specs.Marks.{wordAt, wordsShare}
 use Rattle.marks.proofs.words_share.Statement.{statement}
 use Rattle.marks.proofs.words_share.Tie as tie
 
 returns : tie.Need-returns
 unfolding wordsShare
 returns c =
-    let x = c .before .before .args in
-    and-some 64 (getD (x .table .now) (x .u) 0) (getD (x .table .now) (x .v) 0) (omega (arith, c .before .shared-slice-known .given (x .u)))
+    let x = c .before .before .before .args in
+    let one = getD (x .table .now) (wordAt (x .u) (x .w)) 0 in
+    let other = getD (x .table .now) (wordAt (x .v) (x .w)) 0 in
+    rw (c .before .word-at .ensures, c .word-at2 .ensures) (and-some 64 one other (omega (arith, c .before .before .shared-slice-known .given (wordAt (x .u) (x .w)))))
 
 pub words-share-spec : {M : Type 1} → statement M
-words-share-spec = tie.close (tie.spec (λ c. search needs) (λ c. search needs) (λ c. search needs) (λ c. search needs) returns)
+words-share-spec = tie.close (tie.spec (λ c κs. search needs) (λ c κs. search needs) returns)

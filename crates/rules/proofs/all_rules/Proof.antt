@@ -5,7 +5,7 @@ use borrow.Author.Tests.{not-true, not-false}
 use Rattle.model.specs.Tree.{Array}
 use Rattle.model.specs.Rules.{Table, check1, check2, verdict}
 use Rattle.records.specs.Record.{arrayOf}
-use Rattle.pairs.specs.Pairs.{listed}
+use Rattle.pairs.specs.Pairs.{listTable}
 use Rattle.rules.specs.Ruling.{ruled, claimed}
 use Rattle.rules.proofs.Laws.{ends, goes-on, rule-one, rule-two}
 use borrow.Author.Needs.{needs}
@@ -24,7 +24,7 @@ abbrev array : tie.After-first-rule → Array
 array c = let x = begun c .args in arrayOf (now (x .file)) (x .t)
 
 abbrev table : tie.After-first-rule → Table
-table c = let x = begun c .args in claimed (listed (now (x .rows)) (now (x .loads)) (now (x .bounds)) (x .z .balances)) (now (x .table)) (x .z)
+table c = let x = begun c .args in claimed (listTable (now (x .rows)) (now (x .loads)) (now (x .bounds)) (x .z .balances)) (now (x .table)) (x .z)
 
 one : (c : tie.After-first-rule) → ruled (c .first-rule .result) ≡ check1 (array c) (table c)
 one c = c .first-rule .ensures ∙ rule-one (begun c .pre)

@@ -2,7 +2,7 @@
 use mathlib.Core.Path.{_≡_, sym, ap, _∙_}
 use denote.Ref.{now}
 use Rattle.records.specs.Record.{arrayOf}
-use Rattle.pairs.specs.Pairs.{listed, placed}
+use Rattle.pairs.specs.Pairs.{listTable, placed}
 use Rattle.model.specs.Rules.{check4}
 use Rattle.rules.proofs.Laws.{pairs-four}
 use borrow.Author.Needs.{needs}
@@ -10,7 +10,7 @@ use Rattle.rules.proofs.fourth_rule.Statement.{statement}
 use Rattle.rules.proofs.fourth_rule.Tie as tie
 
 found : (c : tie.After-first-pair) → let x = c .before .before .before .before .before .args in
-    placed 4 (c .first-pair .result) ≡ check4 (arrayOf (now (x .file)) (x .t)) (listed (now (x .rows)) (now (x .loads)) (now (x .bounds)) (x .balances))
+    placed 4 (c .first-pair .result) ≡ check4 (arrayOf (now (x .file)) (x .t)) (listTable (now (x .rows)) (now (x .loads)) (now (x .bounds)) (x .balances))
 found c = c .first-pair .ensures .0 ∙ pairs-four _ _
 
 returns : tie.Need-returns

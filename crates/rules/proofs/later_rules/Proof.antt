@@ -5,7 +5,7 @@ use borrow.Author.Tests.{not-true, not-false}
 use Rattle.model.specs.Tree.{Array}
 use Rattle.model.specs.Rules.{Table, check3, check4}
 use Rattle.records.specs.Record.{arrayOf}
-use Rattle.pairs.specs.Pairs.{listed}
+use Rattle.pairs.specs.Pairs.{listTable}
 use Rattle.rules.specs.Ruling.{ruled, claimed}
 use Rattle.rules.proofs.Laws.{ends, goes-on, rule-three, rule-four, rule-five}
 use borrow.Author.Needs.{needs}
@@ -23,7 +23,7 @@ abbrev array : tie.After-third-rule → Array
 array c = let x = begun c .args in arrayOf (now (x .file)) (x .t)
 
 abbrev table : tie.After-third-rule → Table
-table c = let x = begun c .args in claimed (listed (now (x .rows)) (now (x .loads)) (now (x .bounds)) (x .z .balances)) (now (x .table)) (x .z)
+table c = let x = begun c .args in claimed (listTable (now (x .rows)) (now (x .loads)) (now (x .bounds)) (x .z .balances)) (now (x .table)) (x .z)
 
 three : (c : tie.After-third-rule) → ruled (c .third-rule .result) ≡ check3 (array c) (table c)
 three c = c .third-rule .ensures ∙ rule-three (begun c .pre)

@@ -2,7 +2,7 @@
 use mathlib.Core.Path.{_≡_, sym, ap, _∙_, subst}
 use denote.Ref.{now}
 use Rattle.records.specs.Record.{arrayOf}
-use Rattle.pairs.specs.Pairs.{listed, placed, SmallFigure}
+use Rattle.pairs.specs.Pairs.{listTable, placed, SmallFigure}
 use Rattle.model.specs.Rules.{check3}
 use Rattle.rules.proofs.Laws.{pairs-three, place-three}
 use borrow.Author.Needs.{needs}
@@ -11,7 +11,7 @@ use Rattle.rules.proofs.third_rule.Statement.{statement}
 use Rattle.rules.proofs.third_rule.Tie as tie
 
 found : (c : tie.After-first-pair) → let x = c .before .before .before .before .before .args in
-    placed 3 (c .first-pair .result) ≡ check3 (arrayOf (now (x .file)) (x .t)) (listed (now (x .rows)) (now (x .loads)) (now (x .bounds)) (x .balances))
+    placed 3 (c .first-pair .result) ≡ check3 (arrayOf (now (x .file)) (x .t)) (listTable (now (x .rows)) (now (x .loads)) (now (x .bounds)) (x .balances))
 found c = c .first-pair .ensures .0 ∙ pairs-three _ _
 
 add-t12 : tie.Need-add-t12

@@ -87,5 +87,5 @@ pub bad-reach-spec : {M : Type 1} → statement M
 bad-reach-spec =
     tie.close
     (tie.spec
-    Inv-loop μ-loop (λ c. search needs) fill-scopes-requires loop-holds (λ c κs. search needs) (λ c. search needs) (λ c. search needs)
-    uses-marked-requires returns (λ c. search needs) (λ c. search needs) loop-again returns-2)
+    Inv-loop μ-loop (λ c. search needs) fill-scopes-requires loop-holds (λ c κs. search needs) (λ c. search needs) uses-marked-requires returns
+    (λ c. search needs) (λ c. search needs) loop-again returns-2)

@@ -11,8 +11,8 @@ use Rattle.arrays.specs.declared.ArrayAnswer.the-variants as A
 use Rattle.arrays.specs.File.{readArray}
 use Rattle.arrays.proofs.Laws.{read-is}
 use Rattle.layout.specs.declared.Sizes.{Sizes}
-use Rattle.layout.specs.Table.{sizesOf, lengthFits}
-use Rattle.tables.specs.Read.{answer, readTable}
+use Rattle.layout.specs.Table.{sizesOf, tableLengthFits}
+use Rattle.tables.specs.Read.{sizesAnswer, readTable}
 use Rattle.tables.proofs.Laws.{length-fits, array-refused, array-read}
 use borrow.Author.Needs.{needs}
 use native.Mathlib.Omega.{arith}
@@ -35,7 +35,7 @@ module _ (c : tie.After-known-told2) where
 
 -- the answer, once the table is checked
 checked : (c : tie.After-check-table) (z : Sizes) → z ≡ sizesOf (trailer (c .before)) (table (c .before))
-    → answer (foundOf (c .check-table .result)) z ≡ readTable (array (c .before)) (table (c .before))
+    → sizesAnswer (foundOf (c .check-table .result)) z ≡ readTable (array (c .before)) (table (c .before))
 checked c z e = array-read (array (c .before)) (table (c .before)) (trailer (c .before)) _ z (read (c .before)) (c .check-table .ensures) e
 
 check-table-requires : tie.Need-check-table-requires
@@ -47,7 +47,7 @@ read-sizes-requires : tie.Need-read-sizes-requires
 read-sizes-requires c κs =
     let d = c .before .before in
     let s = table (d .before) in
-    length-fits s (test-clear (lengthFits s) _ (andThen-split _ _ (passes (d .check-table .result) (d .check-table .ensures) (c .enum-told .given .1)) .0))
+    length-fits s (test-clear (tableLengthFits s) _ (andThen-split _ _ (passes (d .check-table .result) (d .check-table .ensures) (c .enum-told .given .1)) .0))
 
 returns : tie.Need-returns
 returns c =
@@ -57,12 +57,12 @@ returns c =
 returns-2 : tie.Need-returns-2
 returns-2 c =
     let d = c .before .before .before in
-    ap (λ x. answer (foundOf x) (sizesOf (trailer (d .before)) (table (d .before)))) (sym (c .before .r2 .given .1)) ∙ checked d _ refl
+    ap (λ x. sizesAnswer (foundOf x) (sizesOf (trailer (d .before)) (table (d .before)))) (sym (c .before .r2 .given .1)) ∙ checked d _ refl
 
 returns-3 : tie.Need-returns-3
 returns-3 c =
     let z = c .read-sizes in
-    ap (λ x. answer (foundOf x) (z .result)) (sym (c .before .enum-told .given .1)) ∙ checked (c .before .before .before) (z .result) (z .ensures)
+    ap (λ x. sizesAnswer (foundOf x) (z .result)) (sym (c .before .enum-told .given .1)) ∙ checked (c .before .before .before) (z .result) (z .ensures)
 
 pub read-table-spec : {M : Type 1} → statement M
 read-table-spec =

@@ -17,7 +17,7 @@ use Rattle.threads.proofs.names_formed.Tie as tie
 
 -- name v's word is well formed
 abbrev wordsTest : List ℕ → List ℕ → ℕ → ℕ → List ℕ → ℕ → ℕ → Bool
-wordsTest frees news marks i threads at v = wordOk (marked news 0) marks (marked frees (4 * i) v) (getD threads (at + v) 0)
+wordsTest frees news marks i threads at v = wordOk (marked news 0) marks (marked frees i v) (getD threads (at + v) 0)
 
 abbrev Inv-loop : tie.InvT-loop
 Inv-loop frees news names marks i threads at v₀ v = (v ≤ names) × (every v (wordsTest frees news marks i threads at) ≡ true)
@@ -66,5 +66,5 @@ pub names-formed-spec : {M : Type 1} → statement M
 names-formed-spec =
     tie.close
     (tie.spec
-    Inv-loop μ-loop loop-holds (λ c. search needs) (λ c κs. search needs) (λ c. search needs) (λ c. search needs) (λ c. search needs)
-    (λ c κs. search needs) returns (λ c. search needs) (λ c. search needs) loop-again returns-2)
+    Inv-loop μ-loop loop-holds (λ c κs. search needs) (λ c. search needs) (λ c. search needs) (λ c. search needs) (λ c κs. search needs) returns
+    (λ c. search needs) (λ c. search needs) loop-again returns-2)

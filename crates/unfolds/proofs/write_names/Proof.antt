@@ -16,16 +16,16 @@ use Rattle.unfolds.proofs.write_names.Statement.{statement}
 use Rattle.unfolds.proofs.write_names.Tie as tie
 
 abbrev Inv-loop : tie.InvT-loop
-Inv-loop frees row env threads₀ at v₀ threads v =
-    (v ≤ length env) × (threads ≡ put at (cutFrom (words []) (marked frees row) 0 (take v env)) threads₀) × (length threads ≡ length threads₀)
+Inv-loop frees i env threads₀ at v₀ threads v =
+    (v ≤ length env) × (threads ≡ put at (cutFrom (words []) (marked frees i) 0 (take v env)) threads₀) × (length threads ≡ length threads₀)
 
 abbrev μ-loop : tie.MeasureT-loop
-μ-loop frees row env threads₀ at v₀ threads v = length env - v
+μ-loop frees i env threads₀ at v₀ threads v = length env - v
 
 loop-holds : tie.Need-loop-holds Inv-loop μ-loop
 loop-holds c =
     let x = c .before .before .before .args in
-    (omega arith, names-none (marked (now (x .frees)) (x .row)) (now (x .env)) (now (x .threads)) (x .at), refl)
+    (omega arith, names-none (marked (now (x .frees)) (x .i)) (now (x .env)) (now (x .threads)) (x .at), refl)
 
 loop-again : tie.Need-loop-again Inv-loop μ-loop
 loop-again c =
@@ -33,7 +33,7 @@ loop-again c =
     let l = c .before .before .before .before .loop in (
       omega arith,
       rw (l .inv .1, c .word-if .ensures, c .before .before .is-marked .ensures)
-          (names-more (marked (now (x .frees)) (x .row)) (now (x .env)) (now (x .threads)) (x .at) (l .v) (omega arith) (omega arith)),
+          (names-more (marked (now (x .frees)) (x .i)) (now (x .env)) (now (x .threads)) (x .at) (l .v) (omega arith) (omega arith)),
       length-set (l .threads) _ _ ∙ l .inv .2,
     )
 
@@ -42,7 +42,7 @@ returns c =
     let x = c .before .before .before .before .before .args in
     let l = c .before .loop in
     l .inv .1
-    ∙ ap (λ (e : List ℕ). put (x .at) (cutFrom (words []) (marked (now (x .frees)) (x .row)) 0 e) (now (x .threads)))
+    ∙ ap (λ (e : List ℕ). put (x .at) (cutFrom (words []) (marked (now (x .frees)) (x .i)) 0 e) (now (x .threads)))
     (take-all (l .v) (now (x .env)) (omega arith))
 
 pub write-names-spec : {M : Type 1} → statement M

@@ -22,7 +22,7 @@ same-length c = c .before .before .write-names .kept .1 .1 .1 .0 ∙ simp length
 returns : tie.Need-returns
 returns c =
     let x = c .before .before .before .before .before .before .before .args in
-    let n = length-cut (words []) (marked (now (x .frees)) (4 * x .i)) 0 (now (x .env)) in
+    let n = length-cut (words []) (marked (now (x .frees)) (x .i)) 0 (now (x .env)) in
     c .before .before .write-names .ensures ∙ thread-put (x .at) (x .i) (x .mark) _ (now (x .threads)) (omega arith)
 
 pub write-thread-spec : {M : Type 1} → statement M
@@ -30,4 +30,4 @@ write-thread-spec =
     tie.close
     (tie.spec
     (λ c. search needs) (λ c. search needs) (λ c. search needs) (λ c. search needs) (λ c. search needs) slice-write-threads-2 (λ c. search needs)
-    (λ c. search needs) (λ c κs. search needs) same-length returns)
+    (λ c κs. search needs) same-length returns)
