@@ -217,11 +217,11 @@ fn pair_turn(
     let fired = steps::fire(file, t, frees, choices, threads, markers, counts, r, s);
     match fired {
         Fired::Stopped(_number) => Stride::Ended(Ending::Full),
-        Fired::Made(used, marker) => Stride::Made(Turn {
+        Fired::Made(made, marker) => Stride::Made(Turn {
             receiver,
             sender,
             marker,
-            counts: used,
+            counts: made,
             allowance: lessened,
         }),
     }

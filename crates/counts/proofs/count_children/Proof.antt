@@ -19,7 +19,7 @@ add-if-requires-2 c κs =
     let start = c .before .before .before .before .before .before .before .before in
     let t = now (start .args .table) in
     let a = c .before .before .before .before .add-if in
-    grown-below t (a .last .0) (a .kept .0) _ (a .ensures) 65000 1 65535 (start .pre) (λ v. one-le _) (omega arith) (start .args .r .right)
+    grown-below t (a .last .0) (a .kept .0) _ (a .ensures) 65000 1 65535 (start .pre) (λ v. one-le _) (omega arith) _
 
 returns : tie.Need-returns
 returns c v l =

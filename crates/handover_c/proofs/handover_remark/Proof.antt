@@ -7,15 +7,8 @@ use borrow.Author.Needs.{needs}
 use Rattle.handover_c.proofs.handover_remark.Statement.{statement}
 use Rattle.handover_c.proofs.handover_remark.Tie as tie
 
-remark-requires : tie.Need-remark-requires
-remark-requires c κs = search needs
-
 returns : tie.Need-returns
 returns c = ap (λ (l : List ℕ). length l) (c .remark .ensures .0)
 
 pub handover-remark-spec : {M : Type 1} → statement M
-handover-remark-spec =
-    tie.close
-    (tie.spec
-    remark-requires
-    returns)
+handover-remark-spec = tie.close (tie.spec (λ c κs. search needs) returns)

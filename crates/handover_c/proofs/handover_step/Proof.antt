@@ -4,27 +4,11 @@ use Rattle.handover_c.proofs.Replies.{step-answer, steps}
 use Rattle.handover_c.proofs.handover_step.Statement.{statement}
 use Rattle.handover_c.proofs.handover_step.Tie as tie
 
-step-requires : tie.Need-step-requires
-step-requires c κs = search needs
-
 pack-step-requires : tie.Need-pack-step-requires
 pack-step-requires c κs = step-answer _ _ _ _ _ _ _ _ (c .before .before .before .before .step .ensures)
-
-same-length : tie.Need-same-length
-same-length c = search needs
-
-same-length-2 : tie.Need-same-length-2
-same-length-2 c = search needs
 
 returns : tie.Need-returns
 returns c = steps _ _ _ _ _ _ _ _ (c .before .before .before .before .before .step .ensures) _ (c .pack-step .ensures)
 
 pub handover-step-spec : {M : Type 1} → statement M
-handover-step-spec =
-    tie.close
-    (tie.spec
-    step-requires
-    pack-step-requires
-    same-length
-    same-length-2
-    returns)
+handover-step-spec = tie.close (tie.spec (λ c κs. search needs) pack-step-requires (λ c. search needs) (λ c. search needs) returns)

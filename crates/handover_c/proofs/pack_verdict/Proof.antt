@@ -10,51 +10,30 @@ use Rattle.handover.specs.Refusals.{TableNumber}
 use Rattle.handover_c.proofs.pack_verdict.Statement.{statement}
 use Rattle.handover_c.proofs.pack_verdict.Tie as tie
 
-enum-known-v : tie.Need-enum-known-v
-enum-known-v c = search needs
-
-enum-known-v-2 : tie.Need-enum-known-v-2
-enum-known-v-2 c = search needs
-
 pack-rule-requires : tie.Need-pack-rule-requires
 pack-rule-requires c κs =
     let h = subst (λ (y : Verdict). FitsReply FitsOutcome TableNumber (says y)) (c .before .v2 .given .1) (c .before .before .before .pre) in
     (omega arith, h .2 .0, h .2 .1, h .2 .2)
-
-enum-known-v-3 : tie.Need-enum-known-v-3
-enum-known-v-3 c = search needs
 
 pack-rule-requires-2 : tie.Need-pack-rule-requires-2
 pack-rule-requires-2 c κs =
     let h = subst (λ (y : Verdict). FitsReply FitsOutcome TableNumber (says y)) (c .before .v3 .given .1) (c .before .before .before .pre) in
     (omega arith, h .2 .0, h .2 .1, h .2 .2)
 
-enum-known-v-4 : tie.Need-enum-known-v-4
-enum-known-v-4 c = search needs
-
 pack-rule-requires-3 : tie.Need-pack-rule-requires-3
 pack-rule-requires-3 c κs =
     let h = subst (λ (y : Verdict). FitsReply FitsOutcome TableNumber (says y)) (c .before .v4 .given .1) (c .before .before .before .pre) in
     (omega arith, h .2 .0, h .2 .1, h .2 .2)
-
-enum-known-v-5 : tie.Need-enum-known-v-5
-enum-known-v-5 c = search needs
 
 pack-rule-requires-4 : tie.Need-pack-rule-requires-4
 pack-rule-requires-4 c κs =
     let h = subst (λ (y : Verdict). FitsReply FitsOutcome TableNumber (says y)) (c .before .v5 .given .1) (c .before .before .before .pre) in
     (omega arith, h .2 .0, h .2 .1, h .2 .2)
 
-enum-known-v-6 : tie.Need-enum-known-v-6
-enum-known-v-6 c = search needs
-
 pack-rule-requires-5 : tie.Need-pack-rule-requires-5
 pack-rule-requires-5 c κs =
     let h = subst (λ (y : Verdict). FitsReply FitsOutcome TableNumber (says y)) (c .before .v6 .given .1) (c .before .before .before .pre) in
     (omega arith, h .2 .0, h .2 .1, h .2 .2)
-
-enum-known-v-7 : tie.Need-enum-known-v-7
-enum-known-v-7 c = search needs
 
 pack-refusal-requires : tie.Need-pack-refusal-requires
 pack-refusal-requires c κs =
@@ -86,23 +65,6 @@ pub pack-verdict-spec : {M : Type 1} → statement M
 pack-verdict-spec =
     tie.close
     (tie.spec
-    enum-known-v
-    enum-known-v-2
-    pack-rule-requires
-    enum-known-v-3
-    pack-rule-requires-2
-    enum-known-v-4
-    pack-rule-requires-3
-    enum-known-v-5
-    pack-rule-requires-4
-    enum-known-v-6
-    pack-rule-requires-5
-    enum-known-v-7
-    pack-refusal-requires
-    returns
-    returns-2
-    returns-3
-    returns-4
-    returns-5
-    returns-6
-    returns-7)
+    (λ c. search needs) (λ c. search needs) pack-rule-requires (λ c. search needs) pack-rule-requires-2 (λ c. search needs) pack-rule-requires-3
+    (λ c. search needs) pack-rule-requires-4 (λ c. search needs) pack-rule-requires-5 (λ c. search needs) pack-refusal-requires returns returns-2
+    returns-3 returns-4 returns-5 returns-6 returns-7)

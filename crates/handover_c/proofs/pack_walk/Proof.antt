@@ -11,19 +11,10 @@ use Rattle.handover_c.specs.Packed.{packedReply, counted, FitsReply, pac
 use Rattle.handover_c.proofs.pack_walk.Statement.{statement}
 use Rattle.handover_c.proofs.pack_walk.Tie as tie
 
-enum-known-x : tie.Need-enum-known-x
-enum-known-x c = search needs
-
-ending-code-requires : tie.Need-ending-code-requires
-ending-code-requires c κs = search needs
-
 pack-counts-requires : tie.Need-pack-counts-requires
 pack-counts-requires c κs =
     let h = subst (λ (y : WalkAnswer). FitsReply FitsWalk WalkNumber (saysWalk y)) (c .before .before .x .given .1) (c .before .before .before .before .pre) in
     (omega (arith, c .ending-code .ensures .1), h .0)
-
-enum-known-x-2 : tie.Need-enum-known-x-2
-enum-known-x-2 c = search needs
 
 pack-refusal-requires : tie.Need-pack-refusal-requires
 pack-refusal-requires c κs =
@@ -45,10 +36,4 @@ pub pack-walk-spec : {M : Type 1} → statement M
 pack-walk-spec =
     tie.close
     (tie.spec
-    enum-known-x
-    ending-code-requires
-    pack-counts-requires
-    enum-known-x-2
-    pack-refusal-requires
-    returns
-    returns-2)
+    (λ c. search needs) (λ c κs. search needs) pack-counts-requires (λ c. search needs) pack-refusal-requires returns returns-2)
