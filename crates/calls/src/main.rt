@@ -9,7 +9,6 @@
 //
 // A position or a count of 4294967295 stands for the largest that a call takes. A script that does not fit, that is cut, or that has an unknown
 // command or an index past its list is a bad script; the commands before that place are followed. A file that can't be opened is one too.
-ghost use mathlib.Core.Path.{_≡_};
 ghost use Prim.Native.Nat.{_<_, _≤_};
 ghost use lib.ListN.{length};
 use call_files::Command;

@@ -1,8 +1,8 @@
 // How often each node is a child and each name is bound, in tables filled once: refusals 9 and 11.
-// Promises the model's refusal9 and refusal11 of the array that the bytes stand for. Depends on records, model and laws.
+// Promises the model's refusal9 and refusal11 of the array that the bytes stand for. Depends on records, wire, model and laws.
 ghost use mathlib.Core.Path.{_≡_};
 ghost use mathlib.Core.Bool.{_&&_, _||_};
-ghost use Prim.Native.Nat.{ℕ, _+_, _*_, _<_, _≤_};
+ghost use Prim.Native.Nat.{ℕ, _+_, _<_, _≤_};
 ghost use lib.ListN.{length, getD};
 ghost use lib.Dec.{ltb, eqb};
 ghost use Rattle.laws.specs.Search.{first};

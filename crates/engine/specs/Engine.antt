@@ -2,14 +2,19 @@
 use Prim.Native.Nat.{ℕ, _+_, _-_}
 use mathlib.Core.Path.{_≡_}
 use mathlib.Core.Bool.{true, false, cond}
-use mathlib.Core.List.{List}
+use mathlib.Core.List.{List, []}
 use lib.ListN.{getD}
 use Rattle.model.specs.Tree.{Array}
-use Rattle.model.specs.Calculus.{Choices, Attempt}
+use Rattle.model.specs.Calculus.{Choices, choicesOf, Attempt}
 use Rattle.model.specs.Numbers.{nobody}
 use Rattle.model.specs.Memory as M
-use Rattle.model.specs.Memory.{Memory, configOf, formed, Result, stops, stepIn, walkIn, markerMade, Next, ended, moved, nextIn}
+use Rattle.model.specs.Memory.{Memory, memory, configOf, formed, Result, stops, startIn, stepIn, try, walkIn, markerMade, Next, ended, moved, nextIn}
+use Rattle.records.specs.declared.Trailer.{Trailer}
+use Rattle.records.specs.Record.{arrayOf}
+use Rattle.lent.specs.declared.Counts.{Counts}
 use Rattle.lent.specs.Lent.{lentOf}
+use Rattle.steps.specs.declared.Fired.{Fired}
+use Rattle.steps.specs.Steps.{FiredAs, UnderMarker}
 use Rattle.engine.specs.declared.Allowance.{Allowance}
 use Rattle.engine.specs.declared.Turn.{Turn}
 use Rattle.engine.specs.declared.Stride.{Stride}
@@ -20,11 +25,25 @@ use Rattle.engine.specs.declared.Walk.{Walk}
 use Rattle.engine.specs.declared.Walked.{Walked}
 use Rattle.engine.specs.declared.Walked.the-variants as W
 
--- ---- step
+-- ---- start and step
+
+-- the start of an array file f whose trailer says t, on the list l; it runs under no marker
+abbrev pub Begins : List ℕ → Trailer → List ℕ → List ℕ → Fired → List ℕ → Type 0
+Begins f t choices l e l′ =
+    let m = memory l 0 [] 0 in
+    FiredAs m (startIn (arrayOf f t) (choicesOf choices) m) e l′ [] × UnderMarker 0 e
 
 -- 23, else 24 to 29, or the step
 unfoldable pub checkedStep : Array → Memory → Attempt → Result
 checkedStep a m u = cond (formed a m) (stepIn a m u) (stops 23)
+
+-- the step of threads r and s where the lists are well formed
+abbrev pub FiresFormed : List ℕ → Trailer → List ℕ → List ℕ → List ℕ → Counts → ℕ → ℕ → Fired → List ℕ → List ℕ → Type 0
+FiresFormed f t choices l ml n r s e l′ ml′ =
+    let a = arrayOf f t in
+    let m = lentOf l ml n in
+    let u = try (choicesOf choices) r s in
+    FiredAs m (checkedStep a m u) e l′ ml′ × UnderMarker (markerMade a m u) e
 
 -- ---- one turn of the walk
 

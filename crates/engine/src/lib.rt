@@ -3,19 +3,18 @@
 // model and laws. The free names of all nodes are worked out once per call, into 32,768 bytes of the engine's own.
 ghost use mathlib.Core.Path.{_≡_};
 ghost use mathlib.Core.Bool.{true};
-ghost use mathlib.Core.List.{[]};
 ghost use Prim.Native.Nat.{_+_, _*_, _-_, _<_};
 ghost use lib.ListN.{length, getD, replicate};
 ghost use Rattle.model.specs.Calculus.{choicesOf};
 ghost use Rattle.model.specs.Numbers.{nobody};
-ghost use Rattle.model.specs.Memory.{memory, threadsIn, formed, startIn, stepIn, walkIn, try, turnIn, nextIn};
+ghost use Rattle.model.specs.Memory.{threadsIn, formed, walkIn, try, turnIn, nextIn};
 ghost use Rattle.records.specs.Record.{arrayOf};
 ghost use Rattle.arrays.specs.File.{IsRead};
 ghost use Rattle.unfolds.specs.Unfold.{Prepared};
 ghost use Rattle.lent.specs.Lent.{lentOf};
-ghost use Rattle.steps.specs.Steps.{FiredAs};
+ghost use Rattle.steps.specs.Steps.{Fires};
 ghost use Rattle.ready.specs.Ready.{meeting};
-ghost use Rattle.engine.specs.Engine.{checkedStep, Strides, walkedOf, WalkedAs, Turns};
+ghost use Rattle.engine.specs.Engine.{Begins, FiresFormed, Strides, walkedOf, WalkedAs, Turns};
 use lent::Counts;
 use model::Ending;
 use ready::Ready;
@@ -106,8 +105,7 @@ fn start_with(
     env: &mut [u32],
 ) -> Fired
     requires { ⌜ Prepared (now file) t (now frees) (now choices) × (now env ≡ replicate (t .names) 0) ⌝ }
-    ensures { λ e. ⌜ FiredAs (memory (now (threads .entry)) 0 [] 0)
-        (startIn (arrayOf (now (file .entry)) t) (choicesOf (now (choices .entry))) (memory (now (threads .entry)) 0 [] 0)) e (now (threads .exit)) [] ⌝ }
+    ensures { λ e. ⌜ Begins (now (file .entry)) t (now (choices .entry)) (now (threads .entry)) e (now (threads .exit)) ⌝ }
 {
     let total = unfolds::count_threads(file, t, frees, choices, 0, 0, env, 0);
     if !lent::threads_fit(threads, t.names, total) {
@@ -126,8 +124,7 @@ fn start_with(
 // Writes the start, or refuses it by 28.
 pub fn start(file: &[u8], t: Trailer, choices: &[u8], threads: &mut [u32]) -> Fired
     requires { ⌜ IsRead (now file) t × (length (now choices) ≡ 128) ⌝ }
-    ensures { λ e. ⌜ FiredAs (memory (now (threads .entry)) 0 [] 0)
-        (startIn (arrayOf (now (file .entry)) t) (choicesOf (now (choices .entry))) (memory (now (threads .entry)) 0 [] 0)) e (now (threads .exit)) [] ⌝ }
+    ensures { λ e. ⌜ Begins (now (file .entry)) t (now (choices .entry)) (now (threads .entry)) e (now (threads .exit)) ⌝ }
 {
     let mut frees = [0u64; 4096];
     frees::fill_frees(&mut frees, file, t);
@@ -150,8 +147,7 @@ fn step_formed(
 ) -> Fired
     requires { ⌜ Prepared (now file) t (now frees) (now choices) ⌝ }
     requires { ⌜ formed (arrayOf (now file) t) (lentOf (now threads) (now markers) counts) ≡ true ⌝ }
-    ensures { λ e. ⌜ FiredAs (lentOf (now (threads .entry)) (now (markers .entry)) counts)
-        (stepIn (arrayOf (now (file .entry)) t) (lentOf (now (threads .entry)) (now (markers .entry)) counts) (try (choicesOf (now (choices .entry))) r s))
+    ensures { λ e. ⌜ Fires (now (file .entry)) t (now (choices .entry)) (now (threads .entry)) (now (markers .entry)) counts r s
         e (now (threads .exit)) (now (markers .exit)) ⌝ }
 {
     let count = counts.threads;
@@ -177,8 +173,7 @@ pub fn step(
     s: usize,
 ) -> Fired
     requires { ⌜ IsRead (now file) t × (length (now choices) ≡ 128) ⌝ }
-    ensures { λ e. ⌜ FiredAs (lentOf (now (threads .entry)) (now (markers .entry)) counts)
-        (checkedStep (arrayOf (now (file .entry)) t) (lentOf (now (threads .entry)) (now (markers .entry)) counts) (try (choicesOf (now (choices .entry))) r s))
+    ensures { λ e. ⌜ FiresFormed (now (file .entry)) t (now (choices .entry)) (now (threads .entry)) (now (markers .entry)) counts r s
         e (now (threads .exit)) (now (markers .exit)) ⌝ }
 {
     let mut frees = [0u64; 4096];

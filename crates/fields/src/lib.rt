@@ -1,9 +1,8 @@
 // The refusals that look at one record at a time: 6, 7, 8 and 10.
 // Promises refusal6 and refusal7 of specs/Fields, and the model's refusal8 and refusal10 of the array that the bytes stand for.
-// Depends on records, model and laws.
+// Depends on records, wire, model and laws.
 ghost use mathlib.Core.Path.{_≡_};
-ghost use Prim.Native.Nat.{_+_, _*_, _≤_};
-ghost use lib.ListN.{length};
+ghost use Prim.Native.Nat.{_+_};
 ghost use Rattle.laws.specs.Search.{every};
 ghost use Rattle.records.specs.Record.{RecordsFit, foundOf};
 ghost use Rattle.fields.specs.Fields.{shapeFits, restZero, unusedZero, childrenFit, argBelow, namesFit, passes, firstBad};

@@ -1,5 +1,5 @@
 -- The test of refusal 19 by rows of marks.
-use Prim.Native.Nat.{ℕ, _*_, _<_}
+use Prim.Native.Nat.{ℕ, _<_}
 use mathlib.Core.Path.{_≡_, ap, ap₂}
 use mathlib.Core.Bool.{Bool, not, _||_}
 use mathlib.Core.List.{List}

@@ -1,10 +1,9 @@
 -- What the list of free names holds: a row of marks for each node.
-use Prim.Native.Nat.{ℕ, _+_, _*_, _≤_, _<_}
+use Prim.Native.Nat.{ℕ, _≤_, _<_}
 use mathlib.Core.Path.{_≡_}
 use mathlib.Core.Logic.{_≢_}
 use mathlib.Core.Bool.{Bool, true, false, _||_}
 use mathlib.Core.List.{List}
-use lib.ListN.{length}
 use Rattle.laws.specs.Lists.{has}
 use Rattle.marks.specs.Marks.{HasRow, marked}
 use Rattle.model.specs.Tree.{Array, Node, stop, new, par, choice, agent, procAt, isFree}

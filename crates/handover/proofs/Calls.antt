@@ -13,12 +13,12 @@ use Rattle.laws.proofs.Search.{clear-hit, test-clear, clear-test, hit-test, and
 use Rattle.model.specs.Tree.{Array}
 use Rattle.model.specs.Formed as F
 use Rattle.model.specs.Formed.{WellFormed}
-use Rattle.model.specs.Calculus.{Choices, Attempt, choicesOf, start}
+use Rattle.model.specs.Calculus.{Choices, Attempt, choicesOf}
 use Rattle.model.specs.declared.Ending.{Ending}
 use Rattle.model.specs.Memory.{Memory, formed, refusal22, refusal23, Result, stops, leaves, startIn, stepIn, try}
 use Rattle.model.specs.Memory.{Next, ended, moved, nextIn, resumed, more, walkIn, Tells}
 use Rattle.model.proofs.Lent.{Sound, formed-sound, sound-formed}
-use Rattle.model.proofs.Engine.{Fate, crowded, unlisted, stored, fitted-fate, step-follows, step-sound, start-follows, start-sound, walk-follows}
+use Rattle.model.proofs.Engine.{step-follows, step-sound, start-follows, start-sound, walk-follows}
 use Rattle.model.proofs.Told.{walk-next, moved-inj, ended-moved, moved-allowed, next-tells, next-sound}
 use Rattle.records.specs.declared.Refusal.{Refusal}
 use Rattle.records.specs.declared.Trailer.{Trailer}

@@ -1,6 +1,6 @@
 -- Array and table files, written out byte by byte, and the marked cases of 01 over them as rows of one table (01, "Arrays A, B
 -- and C"); what the other entries answer and leave on such files, as rows too.
-use Prim.Native.Nat.{ℕ, _+_, _-_, _/_, _%_}
+use Prim.Native.Nat.{ℕ, _+_, _-_, _/_}
 use mathlib.Core.Path.{_≡_}
 use mathlib.Core.List.{List, [], _∷_, _++_}
 use lib.ListN.{length, replicate}

@@ -41,7 +41,7 @@ use rules::Ruling;
 use steps::Fired;
 use tables::TableAnswer;
 
-// Held with M, N, K and Q, the first broken rule with its place figures, or the first refusal with its place.
+// Held with M, N, K, Q and the format, the first broken rule with its place figures, or the first refusal with its place.
 pub enum Verdict {
     Held(Sizes),
     Rule1(usize),

@@ -7,12 +7,10 @@ use mathlib.Core.Logic.{_⊎_, inl, inr, ⊎-elim}
 use mathlib.Core.Bool.{Bool, true, false, cond, not, _||_, true≢false}
 use mathlib.Core.List.{List, [], _∷_}
 use lib.Dec.{eqb, ltb}
-use lib.ListN.{length, getD, drop, set}
+use lib.ListN.{length, getD, drop}
 use lib.Seq.{getD-drop}
 use borrow.Author.Tests.{lt-ltb, le-ltb, eq-eqb}
-use Rattle.laws.specs.Lists.{put}
 use Rattle.laws.proofs.Search.{decided, or-left, or-right, every-same, every-not, any-zero, any-step, any-true, any-false}
-use Rattle.laws.proofs.Put.{set-as-put, set-put}
 use Rattle.marks.specs.Marks.{marked, markIf}
 use Rattle.marks.proofs.Laws.{marked-set}
 use Rattle.model.specs.Numbers.{Entry, noEntry, sameEntry, position}
@@ -32,14 +30,6 @@ entry-words l at =
     let c = sym (getD-drop at l 2 0) in
     let d = sym (getD-drop at l 3 0) in
     λ i. record { resource = a i; out = b i; left = c i; right = d i }
-
-pub put-four : (l : List ℕ) (at a b c d : ℕ) → at + 3 < length l
-    → set (set (set (set l at a) (at + 1) b) (at + 2) c) (at + 3) d ≡ put at (a ∷ b ∷ c ∷ d ∷ []) l
-put-four l at a b c d h =
-    ap (λ (m : List ℕ). set (set (set m (at + 1) b) (at + 2) c) (at + 3) d) (set-as-put l at a (omega arith))
-    ∙ ap (λ (m : List ℕ). set (set m (at + 2) c) (at + 3) d) (set-put at (a ∷ []) l (omega arith) b (omega arith))
-    ∙ ap (λ (m : List ℕ). set m (at + 3) d) (set-put at (a ∷ b ∷ []) l (omega arith) c (omega arith))
-    ∙ set-put at (a ∷ b ∷ c ∷ []) l (omega arith) d (omega arith)
 
 -- ---- the place of an entry
 

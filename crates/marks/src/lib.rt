@@ -1,32 +1,41 @@
-// Rows of 256 marks, each in four 64-bit words of a table: test, set, share, contain. A row is asked for by its number; how many words
-// it takes is said here alone. Promises equations with specs/Marks. Depends on laws and wire.
+// Rows of 256 marks, each in four 64-bit words of a list of rows: test, set, share, contain. A row is asked for by its number; where it
+// stands is said here alone. Promises equations with specs/Marks. Depends on laws and wire.
 ghost use mathlib.Core.Path.{_≡_};
 ghost use Prim.Native.Nat.{_/_, _<_};
 ghost use lib.ListN.{length, getD, set};
 ghost use Rattle.marks.specs.Marks.{wordAt, HasRow, marked, markIf, wordsShare, wordInside, share, inside};
 
-// Word w of row u.
-pub fn word_at(table: &[u64], u: usize, w: usize) -> u64
-    requires { ⌜ HasRow (now table) u × (w < 4) ⌝ }
-    ensures { λ x. ⌜ x ≡ getD (now (table .entry)) (wordAt u w) 0 ⌝ }
+// Where word w of row u stands.
+fn index_of(u: usize, w: usize) -> usize
+    requires { ⌜ wordAt u w < 18446744073709551616 ⌝ }
+    ensures { λ n. ⌜ n ≡ wordAt u w ⌝ }
 {
-    table[4 * u + w]
+    4 * u + w
+}
+
+// Word w of row u.
+pub fn word_at(rows: &[u64], u: usize, w: usize) -> u64
+    requires { ⌜ HasRow (now rows) u × (w < 4) ⌝ }
+    ensures { λ x. ⌜ x ≡ getD (now (rows .entry)) (wordAt u w) 0 ⌝ }
+{
+    rows[index_of(u, w)]
 }
 
 // Writes word w of row u.
-pub fn set_word(table: &mut [u64], u: usize, w: usize, x: u64)
-    requires { ⌜ HasRow (now table) u × (w < 4) ⌝ }
-    ensures { λ _. ⌜ now (table .exit) ≡ set (now (table .entry)) (wordAt u w) x ⌝ }
+pub fn set_word(rows: &mut [u64], u: usize, w: usize, x: u64)
+    requires { ⌜ HasRow (now rows) u × (w < 4) ⌝ }
+    ensures { λ _. ⌜ now (rows .exit) ≡ set (now (rows .entry)) (wordAt u w) x ⌝ }
 {
-    table[4 * u + w] = x;
+    let at = index_of(u, w);
+    rows[at] = x;
 }
 
 // The mark of name v in row u.
-pub fn is_marked(table: &[u64], u: usize, v: usize) -> bool
-    requires { ⌜ wordAt u (v / 64) < length (now table) ⌝ }
-    ensures { λ b. ⌜ b ≡ marked (now (table .entry)) u v ⌝ }
+pub fn is_marked(rows: &[u64], u: usize, v: usize) -> bool
+    requires { ⌜ wordAt u (v / 64) < length (now rows) ⌝ }
+    ensures { λ b. ⌜ b ≡ marked (now (rows .entry)) u v ⌝ }
 {
-    (table[4 * u + v / 64] >> (v % 64)) % 2 == 1
+    (rows[index_of(u, v / 64)] >> (v % 64)) % 2 == 1
 }
 
 // Marks name v in row 0 where `on` is true.
@@ -40,16 +49,16 @@ pub fn mark_if(row: &mut [u64], on: bool, v: usize)
 }
 
 // Word w of rows u and v: they have a bit in common.
-fn words_share(table: &[u64], u: usize, v: usize, w: usize) -> bool
-    requires { ⌜ HasRow (now table) u × HasRow (now table) v × (w < 4) ⌝ }
-    ensures { λ b. ⌜ b ≡ wordsShare (now (table .entry)) u v w ⌝ }
+fn words_share(rows: &[u64], u: usize, v: usize, w: usize) -> bool
+    requires { ⌜ HasRow (now rows) u × HasRow (now rows) v × (w < 4) ⌝ }
+    ensures { λ b. ⌜ b ≡ wordsShare (now (rows .entry)) u v w ⌝ }
 {
-    let x = word_at(table, u, w);
-    let y = word_at(table, v, w);
+    let x = word_at(rows, u, w);
+    let y = word_at(rows, v, w);
     x & y != 0
 }
 
-// Word w of row u of one table and of row v of another: every bit of the first is a bit of the second.
+// Word w of row u of one list and of row v of another: every bit of the first is a bit of the second.
 fn word_inside(one: &[u64], u: usize, other: &[u64], v: usize, w: usize) -> bool
     requires { ⌜ HasRow (now one) u × HasRow (now other) v × (w < 4) ⌝ }
     ensures { λ b. ⌜ b ≡ wordInside (now (one .entry)) u (now (other .entry)) v w ⌝ }
@@ -60,17 +69,17 @@ fn word_inside(one: &[u64], u: usize, other: &[u64], v: usize, w: usize) -> bool
 }
 
 // Rows u and v have a mark in common.
-pub fn shares(table: &[u64], u: usize, v: usize) -> bool
-    requires { ⌜ HasRow (now table) u × HasRow (now table) v ⌝ }
-    ensures { λ b. ⌜ b ≡ share (now (table .entry)) u v ⌝ }
+pub fn shares(rows: &[u64], u: usize, v: usize) -> bool
+    requires { ⌜ HasRow (now rows) u × HasRow (now rows) v ⌝ }
+    ensures { λ b. ⌜ b ≡ share (now (rows .entry)) u v ⌝ }
 {
-    words_share(table, u, v, 0)
-        | words_share(table, u, v, 1)
-        | words_share(table, u, v, 2)
-        | words_share(table, u, v, 3)
+    words_share(rows, u, v, 0)
+        | words_share(rows, u, v, 1)
+        | words_share(rows, u, v, 2)
+        | words_share(rows, u, v, 3)
 }
 
-// Every mark of row u of one table is a mark of row v of the other.
+// Every mark of row u of one list is a mark of row v of the other.
 pub fn contained(one: &[u64], u: usize, other: &[u64], v: usize) -> bool
     requires { ⌜ HasRow (now one) u × HasRow (now other) v ⌝ }
     ensures { λ b. ⌜ b ≡ inside (now (one .entry)) u (now (other .entry)) v ⌝ }

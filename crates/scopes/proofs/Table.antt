@@ -36,115 +36,115 @@ use Rattle.scopes.proofs.Laws.{uses-of}
 
 -- ---- rows passed down
 
-module _ (table : List ℕ) (from to : ℕ) (bound : List ℕ) where
-  pub passed-step : (n : ℕ) → passed table from to bound (n + 1)
-      ≡ set (passed table from to bound n) (wordAt to n) (bitOr (getD (passed table from to bound n) (wordAt from n) 0) (getD bound n 0))
+module _ (reach : List ℕ) (from to : ℕ) (bound : List ℕ) where
+  pub passed-step : (n : ℕ) → passed reach from to bound (n + 1)
+      ≡ set (passed reach from to bound n) (wordAt to n) (bitOr (getD (passed reach from to bound n) (wordAt from n) 0) (getD bound n 0))
   unfolding passed
   passed-step n = rw (add-one, passed)
 
-  passed-length : (n : ℕ) → length (passed table from to bound n) ≡ length table
+  passed-length : (n : ℕ) → length (passed reach from to bound n) ≡ length reach
   unfolding passed
   passed-length zero = refl
-  passed-length (suc n) = length-set (passed table from to bound n) _ _ ∙ passed-length n
+  passed-length (suc n) = length-set (passed reach from to bound n) _ _ ∙ passed-length n
 
   -- words that are not written
-  passed-else : (n k : ℕ) → ((w : ℕ) → w < n → k ≢ wordAt to w) → getD (passed table from to bound n) k 0 ≡ getD table k 0
+  passed-else : (n k : ℕ) → ((w : ℕ) → w < n → k ≢ wordAt to w) → getD (passed reach from to bound n) k 0 ≡ getD reach k 0
   unfolding passed
   passed-else zero k ne = refl
   passed-else (suc n) k ne =
-      getD-set-other (passed table from to bound n) _ k _ 0 (ne n (omega arith)) ∙ passed-else n k (λ w l. ne w (omega arith))
+      getD-set-other (passed reach from to bound n) _ k _ 0 (ne n (omega arith)) ∙ passed-else n k (λ w l. ne w (omega arith))
 
-  module _ (above : from < to) (fits : HasRow table to) where
+  module _ (above : from < to) (fits : HasRow reach to) where
     -- words that are written
-    passed-at : (n w : ℕ) → n ≤ 4 → w < n → getD (passed table from to bound n) (wordAt to w) 0 ≡ bitOr (getD table (wordAt from w) 0) (getD bound w 0)
+    passed-at : (n w : ℕ) → n ≤ 4 → w < n → getD (passed reach from to bound n) (wordAt to w) 0 ≡ bitOr (getD reach (wordAt from w) 0) (getD bound w 0)
     unfolding passed
     passed-at zero w h l = absurd (not-suc-le-zero l)
     passed-at (suc n) w h l =
         ⊎-elim
         (λ (q : w ≡ n).
         rw q
-        (getD-set-same (passed table from to bound n) (wordAt to n) _ 0 (rw passed-length (omega arith))
+        (getD-set-same (passed reach from to bound n) (wordAt to n) _ 0 (rw passed-length (omega arith))
         ∙ ap (λ (x : ℕ). bitOr x (getD bound n 0)) (passed-else n (wordAt from n) (λ m g e. absurd (omega arith)))))
         (λ (k : w < n).
-        getD-set-other (passed table from to bound n) (wordAt to n) (wordAt to w) _ 0 (λ e. absurd (omega arith)) ∙ passed-at n w (omega arith) k)
+        getD-set-other (passed reach from to bound n) (wordAt to n) (wordAt to w) _ 0 (λ e. absurd (omega arith)) ∙ passed-at n w (omega arith) k)
         (eq-or-lt-of-le (le-of-suc-le-suc l))
 
     marked-passed : (i v : ℕ) → v < 256
-        → marked (passed table from to bound 4) i v ≡ cond (eqb i to) (marked table from v || marked bound 0 v) (marked table i v)
+        → marked (passed reach from to bound 4) i v ≡ cond (eqb i to) (marked reach from v || marked bound 0 v) (marked reach i v)
     unfolding marked
     marked-passed i v h = go (decided (eqb i to))
       where
         go : (eqb i to ≡ true) ⊎ (eqb i to ≡ false)
-            → marked (passed table from to bound 4) i v ≡ cond (eqb i to) (marked table from v || marked bound 0 v) (marked table i v)
+            → marked (passed reach from to bound 4) i v ≡ cond (eqb i to) (marked reach from v || marked bound 0 v) (marked reach i v)
         go (inl e) =
             rw (e, eqb-true i to e, zero-add)
             (ap (λ (x : ℕ). bit x (v % 64)) (passed-at 4 (v / 64) (omega arith) (omega arith))
-            ∙ bit-or (getD table (wordAt from (v / 64)) 0) (getD bound (v / 64) 0) (v % 64))
+            ∙ bit-or (getD reach (wordAt from (v / 64)) 0) (getD bound (v / 64) 0) (v % 64))
         go (inr e) = rw e (ap (λ (x : ℕ). bit x (v % 64)) (passed-else 4 (wordAt i (v / 64)) (λ w l q. eqb-false i to e (omega arith))))
 
-passIf-length : (table : List ℕ) (on : Bool) (from to : ℕ) (bound : List ℕ) → length (passIf table on from to bound) ≡ length table
+passIf-length : (reach : List ℕ) (on : Bool) (from to : ℕ) (bound : List ℕ) → length (passIf reach on from to bound) ≡ length reach
 unfolding passIf
-passIf-length table true from to bound = passed-length table from to bound 4
-passIf-length table false from to bound = refl
+passIf-length reach true from to bound = passed-length reach from to bound 4
+passIf-length reach false from to bound = refl
 
-marked-passIf : (table : List ℕ) (on : Bool) (from to : ℕ) (bound : List ℕ)
-    → (on ≡ true → (from < to) × HasRow table to) → (i v : ℕ) → v < 256
-    → marked (passIf table on from to bound) i v ≡ cond (on && eqb i to) (marked table from v || marked bound 0 v) (marked table i v)
+marked-passIf : (reach : List ℕ) (on : Bool) (from to : ℕ) (bound : List ℕ)
+    → (on ≡ true → (from < to) × HasRow reach to) → (i v : ℕ) → v < 256
+    → marked (passIf reach on from to bound) i v ≡ cond (on && eqb i to) (marked reach from v || marked bound 0 v) (marked reach i v)
 unfolding passIf
-marked-passIf table true from to bound fits i v h = marked-passed table from to bound (fits refl .0) (fits refl .1) i v h
-marked-passIf table false from to bound fits i v h = refl
+marked-passIf reach true from to bound fits i v h = marked-passed reach from to bound (fits refl .0) (fits refl .1) i v h
+marked-passIf reach false from to bound fits i v h = refl
 
 -- two passes from one row to others
-marked-twice : (table : List ℕ) (p q : Bool) (j l r : ℕ) (bound : List ℕ)
-    → (p ≡ true → (j < l) × HasRow table l) → (q ≡ true → (j < r) × HasRow table r) → (i v : ℕ) → v < 256
-    → marked (passIf (passIf table p j l bound) q j r bound) i v
-    ≡ cond ((p && eqb i l) || (q && eqb i r)) (marked table j v || marked bound 0 v) (marked table i v)
-marked-twice table p q j l r bound fl fr i v h =
-    marked-passIf once q j r bound (λ e. let f = fr e in (f .0, rw (passIf-length table p j l bound) (f .1))) i v h
+marked-twice : (reach : List ℕ) (p q : Bool) (j l r : ℕ) (bound : List ℕ)
+    → (p ≡ true → (j < l) × HasRow reach l) → (q ≡ true → (j < r) × HasRow reach r) → (i v : ℕ) → v < 256
+    → marked (passIf (passIf reach p j l bound) q j r bound) i v
+    ≡ cond ((p && eqb i l) || (q && eqb i r)) (marked reach j v || marked bound 0 v) (marked reach i v)
+marked-twice reach p q j l r bound fl fr i v h =
+    marked-passIf once q j r bound (λ e. let f = fr e in (f .0, rw (passIf-length reach p j l bound) (f .1))) i v h
     ∙ ap (λ (b : Bool). cond (q && eqb i r) (b || marked bound 0 v) (marked once i v))
-    (marked-passIf table p j l bound fl j v h ∙ ap (λ (b : Bool). cond b new (marked table j v)) (own p fl))
-    ∙ ap (cond (q && eqb i r) new) (marked-passIf table p j l bound fl i v h)
+    (marked-passIf reach p j l bound fl j v h ∙ ap (λ (b : Bool). cond b new (marked reach j v)) (own p fl))
+    ∙ ap (cond (q && eqb i r) new) (marked-passIf reach p j l bound fl i v h)
     ∙ merge (p && eqb i l) (q && eqb i r)
   where
     once : List ℕ
-    once = passIf table p j l bound
+    once = passIf reach p j l bound
 
     new : Bool
-    new = marked table j v || marked bound 0 v
+    new = marked reach j v || marked bound 0 v
 
     -- the first pass leaves row j
-    own : (b : Bool) → (b ≡ true → (j < l) × HasRow table l) → b && eqb j l ≡ false
+    own : (b : Bool) → (b ≡ true → (j < l) × HasRow reach l) → b && eqb j l ≡ false
     own true f = let g = f refl .0 in ne-eqb j l (λ e. absurd (omega arith))
     own false f = refl
 
-    merge : (b c : Bool) → cond c new (cond b new (marked table i v)) ≡ cond (b || c) new (marked table i v)
+    merge : (b c : Bool) → cond c new (cond b new (marked reach i v)) ≡ cond (b || c) new (marked reach i v)
     merge true true = refl
     merge true false = refl
     merge false c = refl
 
-module _ (table : List ℕ) (j : ℕ) (r : Record) (fits : (c : ℕ) → has (children (nodeOf r)) c ≡ true → (j < c) × HasRow table c) where
-  pub left-fits : not (isStop (nodeOf r)) ≡ true → (j < r .left) × HasRow table (r .left)
+module _ (reach : List ℕ) (j : ℕ) (r : Record) (fits : (c : ℕ) → has (children (nodeOf r)) c ≡ true → (j < c) × HasRow reach c) where
+  pub left-fits : not (isStop (nodeOf r)) ≡ true → (j < r .left) × HasRow reach (r .left)
   left-fits e = fits (r .left) (left-child r (not-true _ e))
 
-  pub right-fits : isPar (nodeOf r) || isChoice (nodeOf r) ≡ true → (j < r .right) × HasRow table (r .right)
+  pub right-fits : isPar (nodeOf r) || isChoice (nodeOf r) ≡ true → (j < r .right) × HasRow reach (r .right)
   right-fits e = fits (r .right) (right-child r e)
 
   -- the two children that there may be
   pub handed-down : (bound : List ℕ) → ((v : ℕ) → v < 256 → marked bound 0 v ≡ has (binds (nodeOf r)) v)
-      → let first = passIf table (not (isStop (nodeOf r))) j (r .left) bound in
-      HandedDown table (passIf first (isPar (nodeOf r) || isChoice (nodeOf r)) j (r .right) bound) j (nodeOf r)
+      → let first = passIf reach (not (isStop (nodeOf r))) j (r .left) bound in
+      HandedDown reach (passIf first (isPar (nodeOf r) || isChoice (nodeOf r)) j (r .right) bound) j (nodeOf r)
   handed-down bound b = record {
     rows = λ i v h.
-        marked-twice table (not (isStop (nodeOf r))) (isPar (nodeOf r) || isChoice (nodeOf r)) j (r .left) (r .right) bound left-fits right-fits i v h
-        ∙ ap₂ (λ (c m : Bool). cond c (marked table j v || m) (marked table i v)) (sym (children-of r i)) (b v h);
+        marked-twice reach (not (isStop (nodeOf r))) (isPar (nodeOf r) || isChoice (nodeOf r)) j (r .left) (r .right) bound left-fits right-fits i v h
+        ∙ ap₂ (λ (c m : Bool). cond c (marked reach j v || m) (marked reach i v)) (sym (children-of r i)) (b v h);
   }
 
 -- ---- the table while it is filled
 
 -- the row of every node whose parent, where it has one, is below j
 abbrev pub Filled : Array → List ℕ → ℕ → Type 0
-Filled a table j =
-    (i v : ℕ) → i < a .size → v < 256 → ((p : ℕ) → has (children (nodeAt a p)) i ≡ true → p < j) → marked table i v ≡ inReach a v i
+Filled a reach j =
+    (i v : ℕ) → i < a .size → v < 256 → ((p : ℕ) → has (children (nodeAt a p)) i ≡ true → p < j) → marked reach i v ≡ inReach a v i
 
 module _ (a : Array) (fit : refusal8 a ≡ clear) (once : refusal9 a ≡ clear) where
   pub filled-start : (n : ℕ) → Filled a (replicate n 0) 0
@@ -169,8 +169,8 @@ module _ (a : Array) (fit : refusal8 a ≡ clear) (once : refusal9 a ≡ clear) 
           earlier p q =
               ⊎-elim (λ (s : p ≡ j). absurd (false≢true (sym e ∙ (rw s at q)))) (λ (s : p < j). s) (eq-or-lt-of-le (omega (arith, above p q)))
 
-  pub filled-all : (table : List ℕ) (j : ℕ) → a .size ≤ j → Filled a table j → (i v : ℕ) → i < a .size → v < 256 → marked table i v ≡ inReach a v i
-  filled-all table j l filled i v h k = filled i v h k (λ p q. let f = child-above a fit p i q in omega arith)
+  pub filled-all : (reach : List ℕ) (j : ℕ) → a .size ≤ j → Filled a reach j → (i v : ℕ) → i < a .size → v < 256 → marked reach i v ≡ inReach a v i
+  filled-all reach j l filled i v h k = filled i v h k (λ p q. let f = child-above a fit p i q in omega arith)
 
 -- ---- the test of refusal 12 by the table
 
@@ -189,9 +189,9 @@ module _ (s : List ℕ) (t : Trailer) (bytes : (k : ℕ) → getD s k 0 < 256) w
       go false b = tt
 
   -- where the table's rows are right, its marks answer for node i, whose record is r
-  pub uses-reached : (table : List ℕ) → ((i v : ℕ) → i < t .nodes → v < 256 → marked table i v ≡ inReach (arrayOf s t) v i)
+  pub uses-reached : (reach : List ℕ) → ((i v : ℕ) → i < t .nodes → v < 256 → marked reach i v ≡ inReach (arrayOf s t) v i)
       → (i : ℕ) (r : Record) → i < t .nodes → r ≡ recordOf s t i
-      → all (marked table i) (uses (nodeOf r)) ≡ all (λ v. inReach (arrayOf s t) v i) (uses (nodeAt (arrayOf s t) i))
-  uses-reached table right i r h e =
+      → all (marked reach i) (uses (nodeOf r)) ≡ all (λ v. inReach (arrayOf s t) v i) (uses (nodeAt (arrayOf s t) i))
+  uses-reached reach right i r h e =
       rw (node-read s t i r h e, e)
-      (all-same (λ v. v < 256) (marked table i) (λ v. inReach (arrayOf s t) v i) (uses (nodeOf (recordOf s t i))) (uses-bytes i) (λ v k. right i v h k))
+      (all-same (λ v. v < 256) (marked reach i) (λ v. inReach (arrayOf s t) v i) (uses (nodeOf (recordOf s t i))) (uses-bytes i) (λ v k. right i v h k))

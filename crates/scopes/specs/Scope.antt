@@ -1,5 +1,5 @@
 -- What the table of reaching names holds: a row of marks for each node.
-use Prim.Native.Nat.{ℕ, zero, suc, _+_, _*_, _<_}
+use Prim.Native.Nat.{ℕ, zero, suc, _<_}
 use mathlib.Core.Path.{_≡_}
 use mathlib.Core.Bool.{Bool, true, false, cond, _&&_, _||_}
 use mathlib.Core.List.{List}
@@ -19,15 +19,15 @@ isParam r v = isReceiver (nodeOf r) && has (argsOf r) v
 
 -- the first n words of row `to` hold those of row `from` and of `bound`
 unfoldable pub passed : List ℕ → ℕ → ℕ → List ℕ → ℕ → List ℕ
-passed table from to bound zero = table
-passed table from to bound (suc n) =
-    let before = passed table from to bound n in
+passed reach from to bound zero = reach
+passed reach from to bound (suc n) =
+    let before = passed reach from to bound n in
     set before (wordAt to n) (bitOr (getD before (wordAt from n) 0) (getD bound n 0))
 
 -- the same of all four words where the test is true
 unfoldable pub passIf : List ℕ → Bool → ℕ → ℕ → List ℕ → List ℕ
-passIf table true from to bound = passed table from to bound 4
-passIf table false from to bound = table
+passIf reach true from to bound = passed reach from to bound 4
+passIf reach false from to bound = reach
 
 -- a child of node j has the marks of node j and of what it binds; every other row is as it was
 pub record HandedDown (before after : List ℕ) (j : ℕ) (n : Node) : Type 0 where

@@ -1,9 +1,9 @@
 // Which names reach which node, in a table filled once from the root down: refusal 12.
 // Promises the model's refusal12 of the array that the bytes stand for, where 8 and 9 have passed.
-// Depends on records, marks, model and laws. The table takes 32,768 bytes of stack.
+// Depends on records, marks, wire, model and laws. The table takes 32,768 bytes of stack.
 ghost use mathlib.Core.Path.{_≡_};
 ghost use mathlib.Core.Bool.{true, _&&_, _||_};
-ghost use Prim.Native.Nat.{ℕ, _+_, _*_, _<_, _≤_};
+ghost use Prim.Native.Nat.{ℕ, _+_, _<_, _≤_};
 ghost use lib.ListN.{length, replicate};
 ghost use Rattle.laws.specs.Search.{clear};
 ghost use Rattle.laws.specs.Lists.{all, has};
@@ -41,63 +41,63 @@ pub fn bound_by(r: Record) -> [u64; 4]
 }
 
 // Child `to` of node `from` has the marks of its parent and of what its parent binds.
-fn pass_down(table: &mut [u64], from: usize, to: usize, bound: [u64; 4])
-    requires { ⌜ (from < to) × HasRow (now table) to ⌝ }
-    ensures { λ _. ⌜ now (table .exit) ≡ passed (now (table .entry)) from to bound 4 ⌝ }
+fn pass_down(reach: &mut [u64], from: usize, to: usize, bound: [u64; 4])
+    requires { ⌜ (from < to) × HasRow (now reach) to ⌝ }
+    ensures { λ _. ⌜ now (reach .exit) ≡ passed (now (reach .entry)) from to bound 4 ⌝ }
 {
     let mut w: usize = 0;
     while w < 4 {
-        let above = marks::word_at(table, from, w);
-        marks::set_word(table, to, w, above | bound[w]);
+        let above = marks::word_at(reach, from, w);
+        marks::set_word(reach, to, w, above | bound[w]);
         w += 1;
     }
 }
 
 // The same where `on` is true.
-fn pass_if(table: &mut [u64], on: bool, from: usize, to: usize, bound: [u64; 4])
-    requires { ⌜ (on ≡ true → (from < to) × HasRow (now table) to) ⌝ }
-    ensures { λ _. ⌜ now (table .exit) ≡ passIf (now (table .entry)) on from to bound ⌝ }
+fn pass_if(reach: &mut [u64], on: bool, from: usize, to: usize, bound: [u64; 4])
+    requires { ⌜ (on ≡ true → (from < to) × HasRow (now reach) to) ⌝ }
+    ensures { λ _. ⌜ now (reach .exit) ≡ passIf (now (reach .entry)) on from to bound ⌝ }
 {
     if on {
-        pass_down(table, from, to, bound);
+        pass_down(reach, from, to, bound);
     }
 }
 
 // The children of node j, whose record is r, have the marks of node j and of what it binds.
-fn pass_children(table: &mut [u64], j: usize, r: Record)
+fn pass_children(reach: &mut [u64], j: usize, r: Record)
     requires { ⌜ r .name < 256 ⌝ }
-    requires { ⌜ ((c : ℕ) → has (children (nodeOf r)) c ≡ true → (j < c) × HasRow (now table) c) ⌝ }
-    ensures { λ _. ⌜ HandedDown (now (table .entry)) (now (table .exit)) j (nodeOf r) ⌝ }
+    requires { ⌜ ((c : ℕ) → has (children (nodeOf r)) c ≡ true → (j < c) × HasRow (now reach) c) ⌝ }
+    ensures { λ _. ⌜ HandedDown (now (reach .entry)) (now (reach .exit)) j (nodeOf r) ⌝ }
 {
     let bound = bound_by(r);
-    pass_if(table, records::continues(r), j, r.left, bound);
-    pass_if(table, records::branches(r), j, r.right, bound);
+    pass_if(reach, records::continues(r), j, r.left, bound);
+    pass_if(reach, records::branches(r), j, r.right, bound);
 }
 
 // The names that reach each node, marked in a row for each, of a list that has no marks.
-fn fill_scopes(table: &mut [u64], file: &[u8], t: Trailer)
-    requires { ⌜ RecordsFit (now file) t × (t .nodes ≤ 1024) × (now table ≡ replicate 4096 0) ⌝ }
+fn fill_scopes(reach: &mut [u64], file: &[u8], t: Trailer)
+    requires { ⌜ RecordsFit (now file) t × (t .nodes ≤ 1024) × (now reach ≡ replicate 4096 0) ⌝ }
     requires { ⌜ (refusal8 (arrayOf (now file) t) ≡ clear) × (refusal9 (arrayOf (now file) t) ≡ clear) ⌝ }
-    ensures { λ _. ⌜ ((i v : ℕ) → i < t .nodes → v < 256 → marked (now (table .exit)) i v ≡ inReach (arrayOf (now (file .entry)) t) v i) ⌝ }
+    ensures { λ _. ⌜ ((i v : ℕ) → i < t .nodes → v < 256 → marked (now (reach .exit)) i v ≡ inReach (arrayOf (now (file .entry)) t) v i) ⌝ }
 {
     let mut j: usize = 0;
     while j < t.nodes {
         let r = records::node_at(file, t, j);
-        pass_children(table, j, r);
+        pass_children(reach, j, r);
         j += 1;
     }
 }
 
 // The arguments are marked in row i.
-fn args_marked(table: &[u64], i: usize, r: Record) -> bool
-    requires { ⌜ HasRow (now table) i ⌝ }
-    ensures { λ b. ⌜ b ≡ all (marked (now (table .entry)) i) (argsOf r) ⌝ }
+fn args_marked(reach: &[u64], i: usize, r: Record) -> bool
+    requires { ⌜ HasRow (now reach) i ⌝ }
+    ensures { λ b. ⌜ b ≡ all (marked (now (reach .entry)) i) (argsOf r) ⌝ }
 {
     let args = r.args;
     let mut found = true;
     let mut k: usize = 0;
     while k < 8 {
-        let here = marks::is_marked(table, i, wire::byte_index(args[k]));
+        let here = marks::is_marked(reach, i, wire::byte_index(args[k]));
         found = found & ((r.arity <= k) | here);
         k += 1;
     }
@@ -105,18 +105,18 @@ fn args_marked(table: &[u64], i: usize, r: Record) -> bool
 }
 
 // The names that a record uses are marked in row i.
-fn uses_marked(table: &[u64], i: usize, r: Record) -> bool
-    requires { ⌜ HasRow (now table) i × (r .name < 256) ⌝ }
-    ensures { λ b. ⌜ b ≡ all (marked (now (table .entry)) i) (uses (nodeOf r)) ⌝ }
+fn uses_marked(reach: &[u64], i: usize, r: Record) -> bool
+    requires { ⌜ HasRow (now reach) i × (r .name < 256) ⌝ }
+    ensures { λ b. ⌜ b ≡ all (marked (now (reach .entry)) i) (uses (nodeOf r)) ⌝ }
 {
     if !records::is_agent(r) {
         return true;
     }
     if records::sends(r) {
-        let args = args_marked(table, i, r);
-        return marks::is_marked(table, i, r.name) & args;
+        let args = args_marked(reach, i, r);
+        return marks::is_marked(reach, i, r.name) & args;
     }
-    marks::is_marked(table, i, r.name)
+    marks::is_marked(reach, i, r.name)
 }
 
 // Refusal 12.
@@ -125,12 +125,12 @@ pub fn bad_reach(file: &[u8], t: Trailer) -> Check
     requires { ⌜ (refusal8 (arrayOf (now file) t) ≡ clear) × (refusal9 (arrayOf (now file) t) ≡ clear) ⌝ }
     ensures { λ r. ⌜ foundOf r ≡ refusal12 (arrayOf (now (file .entry)) t) ⌝ }
 {
-    let mut table = [0u64; 4096];
-    fill_scopes(&mut table, file, t);
+    let mut reach = [0u64; 4096];
+    fill_scopes(&mut reach, file, t);
     let mut i: usize = 0;
     while i < t.nodes {
         let r = records::node_at(file, t, i);
-        if !uses_marked(&table, i, r) {
+        if !uses_marked(&reach, i, r) {
             return Check::Refused(Refusal {
                 number: 12,
                 place: i,

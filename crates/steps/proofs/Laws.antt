@@ -46,10 +46,10 @@ use Rattle.ready.proofs.Attempts.{attempt-made}
 use Rattle.lent.specs.declared.Counts.{Counts}
 use Rattle.lent.specs.Lent.{lentOf}
 use Rattle.steps.specs.declared.Meeting.{Meeting}
-use Rattle.steps.specs.declared.Mark.{Mark}
+use Rattle.steps.specs.declared.NewMarker.{NewMarker}
 use Rattle.steps.specs.declared.Fired.{Fired}
 use Rattle.steps.specs.declared.Fired.the-variants.{Stopped, Made}
-use Rattle.steps.specs.Steps.{Makes, Fires, threadAt, Lies, Met, Meets, Binds, meetingAt, entryAt, markFor, entriesFor, Marks, Bound, advanced}
+use Rattle.steps.specs.Steps.{Makes, Fires, threadAt, Lies, Met, Meets, Binds, meetingAt, entryAt, markerFor, entriesFor, MarkerTold, Bound, advanced}
 
 some-inj : {g h : Agent} → some g ≡ some h → g ≡ h
 some-inj e = cc
@@ -109,23 +109,24 @@ module _ {t : Trailer} {l : List ℕ} {n : Counts} {m : Meeting} (x : Met t l n 
   w = 2 + t .names
 
   -- an in keeps its own
-  pub in-mark : isResource (nodeOf (m .p)) ≡ false → (y : Mark) → y .number ≡ getD l (m .receiver * w + 1) 0 → y .markers ≡ n .markers → Marks t l es m y
+  pub in-marker : isResource (nodeOf (m .p)) ≡ false → (y : NewMarker) → y .number ≡ getD l (m .receiver * w + 1) 0 → y .markers ≡ n .markers
+      → MarkerTold t l es m y
   unfolding markerOf listAfter
-  in-mark e y number markers =
+  in-marker e y number markers =
       let k = length-entries (n .markers) ml in
       let is-in = K.in-is (m .p) (x .receives) e in record {
         number = rw is-in number;
-        small = let a = x .mark in let b = x .listed in omega (arith, number);
+        small = let a = x .marker in let b = x .listed in omega (arith, number);
         markers = rw is-in (markers ∙ sym k);
         same = λ h. rw is-in;
         added = λ h. absurd (omega arith);
       }
 
   -- a resource has one of its own
-  pub own-mark : isResource (nodeOf (m .p)) ≡ true → (y : Mark) → entryOf (y .entry) ≡ entryAt l (m .receiver * w) (m .sender * w)
-      → y .number ≡ position (entryOf (y .entry)) es + 1 → y .markers ≡ max (position (entryOf (y .entry)) es + 1) (n .markers) → Marks t l es m y
+  pub own-marker : isResource (nodeOf (m .p)) ≡ true → (y : NewMarker) → entryOf (y .entry) ≡ entryAt l (m .receiver * w) (m .sender * w)
+      → y .number ≡ position (entryOf (y .entry)) es + 1 → y .markers ≡ max (position (entryOf (y .entry)) es + 1) (n .markers) → MarkerTold t l es m y
   unfolding markerOf listAfter extend words
-  own-mark e y entry number markers =
+  own-marker e y entry number markers =
       let k = length-entries (n .markers) ml in
       let own = K.resource-is (m .p) e in
       let at = entryOf (y .entry) in
@@ -187,19 +188,19 @@ module _ {f : List ℕ} {t : Trailer} {l : List ℕ} {n : Counts} {m : Meeting} 
       let k = length-threads (t .names) (n .threads) l in
       length-keep (isResource (nodeOf (m .p))) (m .receiver) (m .sender) C apart (rw k (x .met .receiver)) (rw k (x .met .sender)) ∙ rw k
 
-  module _ {near far : List ℕ} (b : Bound t l m near far) (choices : List ℕ) (mark : ℕ) where
+  module _ {near far : List ℕ} (b : Bound t l m near far) (choices : List ℕ) (marker : ℕ) where
     abbrev X : Config ℕ ℕ
-    X = unfolded f t choices (m .p .left) mark near
+    X = unfolded f t choices (m .p .left) marker near
 
     abbrev Y : Config ℕ ℕ
     Y = unfolded f t choices (m .q .left) (threadAt t l (m .sender) .marker) far
 
-    advanced-is : advanced f t choices l (n .threads) m mark ≡ stay ++ (X ++ Y)
+    advanced-is : advanced f t choices l (n .threads) m marker ≡ stay ++ (X ++ Y)
     unfolding advanced
     advanced-is = rw (b .bound, b .sent)
 
     pub count-is : (mid end : ℕ) → mid ≡ min 257 (n .threads - cond (isResource (nodeOf (m .p))) 1 2 + length X) → end ≡ min 257 (mid + length Y)
-        → end ≡ min 257 (length (advanced f t choices l (n .threads) m mark))
+        → end ≡ min 257 (length (advanced f t choices l (n .threads) m marker))
     count-is mid end e g =
         let k = stay-count in
         let j = length-append stay (X ++ Y) in
@@ -218,8 +219,8 @@ module _ {f : List ℕ} {t : Trailer} {l : List ℕ} {n : Counts} {m : Meeting} 
     -- what stays, and the two unfoldings behind it
     pub words-are : (kept mid end : ℕ) (l₀ l₁ l₂ : List ℕ) → kept ≡ n .threads - cond (isResource (nodeOf (m .p))) 1 2 → l₀ ≡ put 0 (wordsOf stay) l
         → length l₀ ≡ length l → Written W X l₀ l₁ kept mid → length l₁ ≡ length l₀ → Written W Y l₁ l₂ mid end
-        → length (advanced f t choices l (n .threads) m mark) ≤ threadRoom (t .names) l
-        → l₂ ≡ put 0 (wordsOf (advanced f t choices l (n .threads) m mark)) l
+        → length (advanced f t choices l (n .threads) m marker) ≤ threadRoom (t .names) l
+        → l₂ ≡ put 0 (wordsOf (advanced f t choices l (n .threads) m marker)) l
     words-are kept mid end l₀ l₁ l₂ ek e₀ n₀ d n₁ g room =
         let k = stay-count in
         let c = x .met .few in
@@ -227,7 +228,7 @@ module _ {f : List ℕ} {t : Trailer} {l : List ℕ} {n : Counts} {m : Meeting} 
         (threads-wide (t .names) (n .threads) l (x .met .fits)) in
         let stayed : Written W stay l l₀ 0 kept = record { counted = omega arith; placed = λ h i. rw zero-mul e₀ } in
         let all = written-same (written-both (t .names) wide n₀ stayed
-        (written-both (t .names) (wide-unfolded f t choices (m .p .left) mark near length-near) n₁ d g)) advanced-is in
+        (written-both (t .names) (wide-unfolded f t choices (m .p .left) marker near length-near) n₁ d g)) advanced-is in
         let z = thread-room (t .names) _ l room in
         rw zero-mul at (all .placed (omega arith) (rw zero-add (z .1)))
 
@@ -317,7 +318,7 @@ module _ {f : List ℕ} {t : Trailer} (l ml : List ℕ) (n : Counts) (read : IsR
           sender = hs;
           at = lies r hr;
           from = lies s hs;
-          mark = formed-at r hr .1;
+          marker = formed-at r hr .1;
           other = formed-at s hs .1;
           receives = K.agent-sort (m .p) (acts r hr) .0 ∙ ap (λ (y : Agent). receives (y .sort)) (sym is-p) ∙ meet .0 .receives;
           sends = K.agent-sort (m .q) (acts s hs) .1 ∙ ap not (ap (λ (y : Agent). receives (y .sort)) (sym is-q) ∙ meet .0 .sends);
@@ -329,7 +330,7 @@ module _ {f : List ℕ} {t : Trailer} (l ml : List ℕ) (n : Counts) (read : IsR
       }
 
       -- the model's step, by words
-      stepped-is : stepped (words ES) (configOf A M) u (agentIn A (m .p)) (agentIn A (m .q)) ≡ advanced f t choices l (n .threads) m (markFor t l ES m)
+      stepped-is : stepped (words ES) (configOf A M) u (agentIn A (m .p)) (agentIn A (m .q)) ≡ advanced f t choices l (n .threads) m (markerFor t l ES m)
       unfolding stepped advanced receiverLeaves senderLeaves words unfolded unfoldProc cutFrom
       stepped-is =
           rw (thread-at (t .names) r (n .threads) l hr, thread-at (t .names) s (n .threads) l hs)
@@ -350,11 +351,11 @@ module _ {f : List ℕ} {t : Trailer} (l ml : List ℕ) (n : Counts) (read : IsR
       unfolding markersAfter
       after-is = ap (λ y. elim y [ none ↦ ES | some g ↦ listAfter ES (g .sort) R S ]) (found r hr) ∙ by-words (listAfter ES (sortOf (m .p)))
 
-      pub marker-is : markerMade A M u ≡ markFor t l ES m
+      pub marker-is : markerMade A M u ≡ markerFor t l ES m
       unfolding markerMade
       marker-is = ap (λ y. elim y [ none ↦ 0 | some g ↦ markerOf (words ES) (g .sort) R S ]) (found r hr) ∙ by-words (markerOf (words ES) (sortOf (m .p)))
 
-      pub step-is : stepIn A M u ≡ fitted A M (advanced f t choices l (n .threads) m (markFor t l ES m)) (entriesFor t l ES m)
+      pub step-is : stepIn A M u ≡ fitted A M (advanced f t choices l (n .threads) m (markerFor t l ES m)) (entriesFor t l ES m)
       unfolding stepIn onAnswer
       step-is =
           ap₂ (λ (x : List Entry) (y : Answer ℕ ℕ). onAnswer A M x y) after-is
@@ -383,8 +384,8 @@ module _ (a : Array) (l ml : List ℕ) (n : Counts) (c : Config ℕ ℕ) (es : L
         rw (few, e) (λ i. leaves record { threads = sym el i; threadCount = sym ek i; markers = sym em i; markerCount = sym ej i })
 
 -- the entries after the step in their list: as they were, or with one more
-module _ {t : Trailer} {l : List ℕ} (ml : List ℕ) (n : Counts) {m : Meeting} {x : Mark}
-    (fits : n .markers ≤ markerRoom ml) (y : Marks t l (entriesIn (n .markers) ml) m x) where
+module _ {t : Trailer} {l : List ℕ} (ml : List ℕ) (n : Counts) {m : Meeting} {x : NewMarker}
+    (fits : n .markers ≤ markerRoom ml) (y : MarkerTold t l (entriesIn (n .markers) ml) m x) where
   abbrev old : List Entry
   old = entriesIn (n .markers) ml
 

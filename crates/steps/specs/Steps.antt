@@ -18,7 +18,7 @@ use Rattle.threads.specs.Threads.{remains}
 use Rattle.lent.specs.declared.Counts.{Counts}
 use Rattle.lent.specs.Lent.{lentOf}
 use Rattle.steps.specs.declared.Meeting.{Meeting}
-use Rattle.steps.specs.declared.Mark.{Mark}
+use Rattle.steps.specs.declared.NewMarker.{NewMarker}
 use Rattle.steps.specs.declared.Fired.{Fired}
 use Rattle.steps.specs.declared.Fired.the-variants.{Stopped, Made}
 
@@ -48,7 +48,7 @@ pub record Met (t : Trailer) (l : List ℕ) (n : Counts) (m : Meeting) : Type 0 
   pub sender : m .sender < n .threads
   pub at : Lies t l (m .receiver)
   pub from : Lies t l (m .sender)
-  pub mark : threadAt t l (m .receiver) .marker ≤ n .markers
+  pub marker : threadAt t l (m .receiver) .marker ≤ n .markers
   pub other : threadAt t l (m .sender) .marker ≤ n .markers
   pub receives : isReceiver (nodeOf (m .p)) ≡ true
   pub sends : isOut (nodeOf (m .q)) ≡ true
@@ -79,15 +79,15 @@ abbrev pub entryAt : List ℕ → ℕ → ℕ → Entry
 entryAt l at from = record { resource = getD l at 0; out = getD l from 0; left = getD l (at + 1) 0; right = getD l (from + 1) 0 }
 
 -- the marker number of the receiver's continuation, and the entries after the step
-abbrev pub markFor : Trailer → List ℕ → List Entry → Meeting → ℕ
-markFor t l es m = markerOf (words es) (sortOf (m .p)) (threadAt t l (m .receiver)) (threadAt t l (m .sender))
+abbrev pub markerFor : Trailer → List ℕ → List Entry → Meeting → ℕ
+markerFor t l es m = markerOf (words es) (sortOf (m .p)) (threadAt t l (m .receiver)) (threadAt t l (m .sender))
 
 abbrev pub entriesFor : Trailer → List ℕ → List Entry → Meeting → List Entry
 entriesFor t l es m = listAfter es (sortOf (m .p)) (threadAt t l (m .receiver)) (threadAt t l (m .sender))
 
--- a mark tells both
-pub record Marks (t : Trailer) (l : List ℕ) (es : List Entry) (m : Meeting) (x : Mark) : Type 0 where
-  pub number : x .number ≡ markFor t l es m
+-- a marker tells both
+pub record MarkerTold (t : Trailer) (l : List ℕ) (es : List Entry) (m : Meeting) (x : NewMarker) : Type 0 where
+  pub number : x .number ≡ markerFor t l es m
   pub small : x .number < 65536
   pub markers : x .markers ≡ length (entriesFor t l es m)
   pub same : x .markers ≤ length es → entriesFor t l es m ≡ es
@@ -128,7 +128,7 @@ UnderMarker x (Made n y) = y ≡ x
 abbrev pub Makes : List ℕ → Trailer → List ℕ → List ℕ → List ℕ → Counts → Meeting → Fired → List ℕ → List ℕ → Type 0
 Makes f t choices l ml n m e l′ ml′ =
     let es = entriesIn (n .markers) ml in
-    let x = markFor t l es m in
+    let x = markerFor t l es m in
     let lent = lentOf l ml n in
     FiredAs lent (fitted (arrayOf f t) lent (advanced f t choices l (n .threads) m x) (entriesFor t l es m)) e l′ ml′ × UnderMarker x e
 

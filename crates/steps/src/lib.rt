@@ -13,14 +13,14 @@ ghost use Rattle.markers.specs.Markers.{entryOf};
 ghost use Rattle.unfolds.specs.Unfold.{Prepared};
 ghost use Rattle.ready.specs.Ready.{meeting};
 ghost use Rattle.lent.specs.Lent.{lentOf};
-ghost use Rattle.steps.specs.Steps.{Lies, Met, Meets, Binds, Bound, Marks, entryAt, meetingAt, advanced, Makes, Fires};
+ghost use Rattle.steps.specs.Steps.{Lies, Met, Meets, Binds, Bound, MarkerTold, entryAt, meetingAt, advanced, Makes, Fires};
 use lent::Counts;
 use markers::Entry;
 use records::Record;
 use records::Trailer;
 
-// What becomes of a ready pair: refused by 28 or 29, or the counts after its step and the marker number of the receiver's
-// continuation.
+// What becomes of a start or a step: refused, by its number, or the counts after it and the marker number of the receiver's continuation, 0 after
+// a start. A ready pair is refused by 28 or 29 alone.
 pub enum Fired {
     Stopped(u8),
     Made(Counts, u32),
@@ -35,7 +35,7 @@ struct Meeting {
 }
 
 // The marker of the receiver's continuation: its number, how many markers are listed with it, and its entry, if it is to be added.
-struct Mark {
+struct NewMarker {
     number: u32,
     markers: usize,
     entry: Entry,
@@ -69,23 +69,23 @@ fn entry_of(threads: &[u32], at: usize, from: usize) -> Entry
 }
 
 // The marker that the receiver's continuation runs under: an in's as it is, a resource's own, listed or to be added.
-fn mark_of(t: Trailer, threads: &[u32], markers: &[u16], counts: Counts, m: Meeting) -> Mark
+fn marker_for(t: Trailer, threads: &[u32], markers: &[u16], counts: Counts, m: Meeting) -> NewMarker
     requires { ⌜ Met t (now threads) counts m × (4 * counts .markers ≤ length (now markers)) ⌝ }
-    ensures { λ x. ⌜ Marks t (now (threads .entry)) (entriesIn (counts .markers) (now (markers .entry))) m x ⌝ }
+    ensures { λ x. ⌜ MarkerTold t (now (threads .entry)) (entriesIn (counts .markers) (now (markers .entry))) m x ⌝ }
 {
     let width = 2 + t.names;
     let at = m.receiver * width;
     let listed = counts.markers;
     let entry = entry_of(threads, at, m.sender * width);
     if !records::is_resource(m.p) {
-        return Mark {
+        return NewMarker {
             number: threads[at + 1],
             markers: listed,
             entry,
         };
     }
     let k = markers::find_entry(markers, listed, entry);
-    Mark {
+    NewMarker {
         number: (k + 1) as u32,
         markers: at_least(k + 1, listed),
         entry,
@@ -126,18 +126,18 @@ fn count_after(
     threads: &[u32],
     counts: Counts,
     m: Meeting,
-    mark: u32,
+    marker: u32,
     near: &mut [u32],
     far: &mut [u32],
 ) -> usize
-    requires { ⌜ Prepared (now file) t (now frees) (now choices) × Meets (now file) t (now threads) counts m × (mark < 65536) ⌝ }
+    requires { ⌜ Prepared (now file) t (now frees) (now choices) × Meets (now file) t (now threads) counts m × (marker < 65536) ⌝ }
     requires { ⌜ Bound t (now threads) m (now near) (now far) ⌝ }
     ensures { λ n. ⌜ (now (near .exit) ≡ now (near .entry)) × (now (far .exit) ≡ now (far .entry))
-        × (n ≡ min 257 (length (advanced (now (file .entry)) t (now (choices .entry)) (now (threads .entry)) (counts .threads) m mark))) ⌝ }
+        × (n ≡ min 257 (length (advanced (now (file .entry)) t (now (choices .entry)) (now (threads .entry)) (counts .threads) m marker))) ⌝ }
 {
     let other = threads[m.sender * (2 + t.names) + 1];
     let kept = kept_count(counts.threads, records::is_resource(m.p));
-    let mid = unfolds::count_threads(file, t, frees, choices, m.p.left, mark, near, kept);
+    let mid = unfolds::count_threads(file, t, frees, choices, m.p.left, marker, near, kept);
     unfolds::count_threads(file, t, frees, choices, m.q.left, other, far, mid)
 }
 
@@ -150,15 +150,15 @@ fn write_after(
     threads: &mut [u32],
     counts: Counts,
     m: Meeting,
-    mark: u32,
+    marker: u32,
     near: &mut [u32],
     far: &mut [u32],
 )
-    requires { ⌜ Prepared (now file) t (now frees) (now choices) × Meets (now file) t (now threads) counts m × (mark < 65536) ⌝ }
+    requires { ⌜ Prepared (now file) t (now frees) (now choices) × Meets (now file) t (now threads) counts m × (marker < 65536) ⌝ }
     requires { ⌜ Bound t (now threads) m (now near) (now far) ⌝ }
-    requires { ⌜ length (advanced (now file) t (now choices) (now threads) (counts .threads) m mark) ≤ threadRoom (t .names) (now threads) ⌝ }
+    requires { ⌜ length (advanced (now file) t (now choices) (now threads) (counts .threads) m marker) ≤ threadRoom (t .names) (now threads) ⌝ }
     ensures { λ _. ⌜ now (threads .exit) ≡ put 0 (wordsOf
-        (advanced (now (file .entry)) t (now (choices .entry)) (now (threads .entry)) (counts .threads) m mark)) (now (threads .entry)) ⌝ }
+        (advanced (now (file .entry)) t (now (choices .entry)) (now (threads .entry)) (counts .threads) m marker)) (now (threads .entry)) ⌝ }
 {
     let other = threads[m.sender * (2 + t.names) + 1];
     let resource = records::is_resource(m.p);
@@ -171,7 +171,17 @@ fn write_after(
         m.sender,
         resource,
     );
-    let mid = unfolds::unfold_node(file, t, frees, choices, m.p.left, mark, near, threads, kept);
+    let mid = unfolds::unfold_node(
+        file,
+        t,
+        frees,
+        choices,
+        m.p.left,
+        marker,
+        near,
+        threads,
+        kept,
+    );
     unfolds::unfold_node(file, t, frees, choices, m.q.left, other, far, threads, mid);
 }
 
@@ -193,10 +203,10 @@ fn fire_meeting(
     ensures { λ e. ⌜ Makes (now (file .entry)) t (now (choices .entry)) (now (threads .entry)) (now (markers .entry)) counts m
         e (now (threads .exit)) (now (markers .exit)) ⌝ }
 {
-    let mark = mark_of(t, threads, markers, counts, m);
+    let marker = marker_for(t, threads, markers, counts, m);
     bind_both(t, threads, m, near, far);
-    let number = mark.number;
-    let listed = mark.markers;
+    let number = marker.number;
+    let listed = marker.markers;
     let total = count_after(
         file,
         t,
@@ -215,7 +225,12 @@ fn fire_meeting(
     if !lent::markers_fit(markers, listed) {
         return Fired::Stopped(29);
     }
-    markers::add_if(markers, counts.markers < listed, counts.markers, mark.entry);
+    markers::add_if(
+        markers,
+        counts.markers < listed,
+        counts.markers,
+        marker.entry,
+    );
     write_after(
         file,
         t,

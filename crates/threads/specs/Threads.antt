@@ -23,6 +23,6 @@ unfoldable pub wordOk : (ℕ → Bool) → ℕ → Bool → ℕ → Bool
 wordOk news k true x = not (eqb x 0) && (news (newIn x) && leb (markerIn x) k)
 wordOk news k false x = eqb x 0
 
--- the first k threads are well formed, where the marker count is `marks`
+-- the first k threads are well formed, where the marker count is `listed`
 unfoldable pub threadsFormed : Array → Config ℕ ℕ → ℕ → ℕ → Bool
-threadsFormed a c k marks = every k λ i. threadFormed a marks (getD c i nobody)
+threadsFormed a c k listed = every k λ i. threadFormed a listed (getD c i nobody)

@@ -103,10 +103,10 @@ pub fn bind_params(p: Record, q: Record, sent: &[u32], env: &mut [u32])
 // ---- well formed
 
 // A name's word is 0 exactly where the name isn't free, and otherwise its new is among those opened and its marker number at most
-// `marks`.
-fn word_formed(news: &[u64], marks: usize, free: bool, x: u32) -> bool
+// `listed`.
+fn word_formed(news: &[u64], listed: usize, free: bool, x: u32) -> bool
     requires { ⌜ length (now news) ≡ 4 ⌝ }
-    ensures { λ b. ⌜ b ≡ wordOk (marked (now (news .entry)) 0) marks free x ⌝ }
+    ensures { λ b. ⌜ b ≡ wordOk (marked (now (news .entry)) 0) listed free x ⌝ }
 {
     if !free {
         return x == 0;
@@ -120,7 +120,7 @@ fn word_formed(news: &[u64], marks: usize, free: bool, x: u32) -> bool
         return false;
     }
     let opens = marks::is_marked(news, 0, new);
-    opens & (opening % 65536 <= marks)
+    opens & (opening % 65536 <= listed)
 }
 
 // The words of the names from index `at` on are well formed for agent i.
@@ -128,19 +128,19 @@ fn names_formed(
     frees: &[u64],
     news: &[u64],
     names: usize,
-    marks: usize,
+    listed: usize,
     i: usize,
     threads: &[u32],
     at: usize,
 ) -> bool
     requires { ⌜ HasRow (now frees) i × (length (now news) ≡ 4) × (names ≤ 256) × (at + names ≤ length (now threads)) ⌝ }
     ensures { λ b. ⌜ b ≡ every names (λ v.
-        wordOk (marked (now (news .entry)) 0) marks (marked (now (frees .entry)) i v) (getD (now (threads .entry)) (at + v) 0)) ⌝ }
+        wordOk (marked (now (news .entry)) 0) listed (marked (now (frees .entry)) i v) (getD (now (threads .entry)) (at + v) 0)) ⌝ }
 {
     let mut v: usize = 0;
     while v < names {
         let free = marks::is_marked(frees, i, v);
-        if !word_formed(news, marks, free, threads[at + v]) {
+        if !word_formed(news, listed, free, threads[at + v]) {
             return false;
         }
         v += 1;
@@ -154,24 +154,24 @@ fn thread_formed(
     t: Trailer,
     frees: &[u64],
     news: &[u64],
-    marks: usize,
+    listed: usize,
     threads: &[u32],
     at: usize,
 ) -> bool
     requires { ⌜ IsRead (now file) t × (at + (2 + t .names) ≤ length (now threads)) ⌝ }
     requires { ⌜ (length (now frees) ≡ 4096) × AllFree (now frees) (arrayOf (now file) t) ⌝ }
     requires { ⌜ (length (now news) ≡ 4) × ((o : ℕ) → marked (now news) 0 o ≡ isNew (arrayOf (now file) t) o) ⌝ }
-    ensures { λ b. ⌜ b ≡ threadFormed (arrayOf (now (file .entry)) t) marks (threadIn (t .names) (drop at (now (threads .entry)))) ⌝ }
+    ensures { λ b. ⌜ b ≡ threadFormed (arrayOf (now (file .entry)) t) listed (threadIn (t .names) (drop at (now (threads .entry)))) ⌝ }
 {
     let i = wire::word_index(threads[at]);
     let r = records::node_or_stop(file, t, i);
     if !records::is_agent(r) {
         return false;
     }
-    if marks < wire::word_index(threads[at + 1]) {
+    if listed < wire::word_index(threads[at + 1]) {
         return false;
     }
-    names_formed(frees, news, t.names, marks, i, threads, at + 2)
+    names_formed(frees, news, t.names, listed, i, threads, at + 2)
 }
 
 // The first `count` threads are well formed.
@@ -180,20 +180,20 @@ pub fn threads_formed(
     t: Trailer,
     frees: &[u64],
     news: &[u64],
-    marks: usize,
+    listed: usize,
     threads: &[u32],
     count: usize,
 ) -> bool
     requires { ⌜ IsRead (now file) t × (count ≤ 256) × (count * (2 + t .names) ≤ length (now threads)) ⌝ }
     requires { ⌜ (length (now frees) ≡ 4096) × AllFree (now frees) (arrayOf (now file) t) ⌝ }
     requires { ⌜ (length (now news) ≡ 4) × ((o : ℕ) → marked (now news) 0 o ≡ isNew (arrayOf (now file) t) o) ⌝ }
-    ensures { λ b. ⌜ b ≡ threadsFormed (arrayOf (now (file .entry)) t) (threadsIn (t .names) count (now (threads .entry))) count marks ⌝ }
+    ensures { λ b. ⌜ b ≡ threadsFormed (arrayOf (now (file .entry)) t) (threadsIn (t .names) count (now (threads .entry))) count listed ⌝ }
 {
     let width = 2 + t.names;
     let mut at: usize = 0;
     let mut i: usize = 0;
     while i < count {
-        if !thread_formed(file, t, frees, news, marks, threads, at) {
+        if !thread_formed(file, t, frees, news, listed, threads, at) {
             return false;
         }
         at += width;

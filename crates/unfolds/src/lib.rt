@@ -25,11 +25,11 @@ fn chosen(choices: &[u8], i: usize, r: Record) -> usize
 }
 
 // The word of name v, opened under a marker.
-fn opened_word(v: usize, mark: u32) -> u32
-    requires { ⌜ (v < 256) × (mark < 65536) ⌝ }
-    ensures { λ x. ⌜ x ≡ opening v mark ⌝ }
+fn opened_word(v: usize, marker: u32) -> u32
+    requires { ⌜ (v < 256) × (marker < 65536) ⌝ }
+    ensures { λ x. ⌜ x ≡ opening v marker ⌝ }
 {
-    1 + 65536 * (v as u32) + mark
+    1 + 65536 * (v as u32) + marker
 }
 
 // A name's word where it is kept, else 0.
@@ -56,27 +56,27 @@ fn write_names(frees: &[u64], i: usize, env: &[u32], threads: &mut [u32], at: us
 }
 
 // Writes a thread of node i from index `at` on.
-fn write_thread(frees: &[u64], i: usize, mark: u32, env: &[u32], threads: &mut [u32], at: usize)
+fn write_thread(frees: &[u64], i: usize, marker: u32, env: &[u32], threads: &mut [u32], at: usize)
     requires { ⌜ HasRow (now frees) i × (i < 1024) × (length (now env) ≤ 256) × (at + 2 + length (now env) ≤ length (now threads)) ⌝ }
     ensures { λ _. ⌜ now (threads .exit)
-        ≡ put at (i ∷ mark ∷ cutFrom (words []) (marked (now (frees .entry)) i) 0 (now (env .entry))) (now (threads .entry)) ⌝ }
+        ≡ put at (i ∷ marker ∷ cutFrom (words []) (marked (now (frees .entry)) i) 0 (now (env .entry))) (now (threads .entry)) ⌝ }
 {
     threads[at] = i as u32;
-    threads[at + 1] = mark;
+    threads[at + 1] = marker;
     write_names(frees, i, env, threads, at + 2);
 }
 
 // Writes it as thread k of the list, where there is room.
-fn place_thread(frees: &[u64], i: usize, mark: u32, env: &[u32], threads: &mut [u32], k: usize)
+fn place_thread(frees: &[u64], i: usize, marker: u32, env: &[u32], threads: &mut [u32], k: usize)
     requires { ⌜ HasRow (now frees) i × (i < 1024) × (length (now env) ≤ 256) × (k ≤ 257) ⌝ }
     ensures { λ _. ⌜ (k * (2 + length (now (env .entry))) + (2 + length (now (env .entry))) ≤ length (now (threads .entry)) → now (threads .exit)
         ≡ put (k * (2 + length (now (env .entry))))
-        (i ∷ mark ∷ cutFrom (words []) (marked (now (frees .entry)) i) 0 (now (env .entry))) (now (threads .entry))) ⌝ }
+        (i ∷ marker ∷ cutFrom (words []) (marked (now (frees .entry)) i) 0 (now (env .entry))) (now (threads .entry))) ⌝ }
 {
     let width = 2 + env.len();
     let at = k * width;
     if at + width <= threads.len() {
-        write_thread(frees, i, mark, env, threads, at);
+        write_thread(frees, i, marker, env, threads, at);
     }
 }
 
@@ -98,14 +98,14 @@ pub fn unfold_node(
     frees: &[u64],
     choices: &[u8],
     i: usize,
-    mark: u32,
+    marker: u32,
     env: &mut [u32],
     threads: &mut [u32],
     k: usize,
 ) -> usize
-    requires { ⌜ Prepared (now file) t (now frees) (now choices) × Unfolds t i mark (now env) k ⌝ }
+    requires { ⌜ Prepared (now file) t (now frees) (now choices) × Unfolds t i marker (now env) k ⌝ }
     ensures { λ r. ⌜ (now (env .exit) ≡ now (env .entry)) × Written (2 + t .names)
-        (unfolded (now (file .entry)) t (now (choices .entry)) i mark (now (env .entry))) (now (threads .entry)) (now (threads .exit)) k r ⌝ }
+        (unfolded (now (file .entry)) t (now (choices .entry)) i marker (now (env .entry))) (now (threads .entry)) (now (threads .exit)) k r ⌝ }
 {
     let r = records::node_at(file, t, i);
     if records::is_stop(r) {
@@ -114,20 +114,20 @@ pub fn unfold_node(
     if records::is_new(r) {
         let v = r.name;
         let old = env[v];
-        env[v] = opened_word(v, mark);
-        let end = unfold_node(file, t, frees, choices, r.left, mark, env, threads, k);
+        env[v] = opened_word(v, marker);
+        let end = unfold_node(file, t, frees, choices, r.left, marker, env, threads, k);
         env[v] = old;
         return end;
     }
     if records::is_par(r) {
-        let mid = unfold_node(file, t, frees, choices, r.left, mark, env, threads, k);
-        return unfold_node(file, t, frees, choices, r.right, mark, env, threads, mid);
+        let mid = unfold_node(file, t, frees, choices, r.left, marker, env, threads, k);
+        return unfold_node(file, t, frees, choices, r.right, marker, env, threads, mid);
     }
     if records::is_choice(r) {
         let side = chosen(choices, i, r);
-        return unfold_node(file, t, frees, choices, side, mark, env, threads, k);
+        return unfold_node(file, t, frees, choices, side, marker, env, threads, k);
     }
-    place_thread(frees, i, mark, env, threads, k);
+    place_thread(frees, i, marker, env, threads, k);
     one_more(k)
 }
 
@@ -138,14 +138,14 @@ pub fn count_threads(
     frees: &[u64],
     choices: &[u8],
     i: usize,
-    mark: u32,
+    marker: u32,
     env: &mut [u32],
     k: usize,
 ) -> usize
-    requires { ⌜ Prepared (now file) t (now frees) (now choices) × Unfolds t i mark (now env) k ⌝ }
+    requires { ⌜ Prepared (now file) t (now frees) (now choices) × Unfolds t i marker (now env) k ⌝ }
     ensures { λ r. ⌜ (now (env .exit) ≡ now (env .entry))
-        × (r ≡ min 257 (k + length (unfolded (now (file .entry)) t (now (choices .entry)) i mark (now (env .entry))))) ⌝ }
+        × (r ≡ min 257 (k + length (unfolded (now (file .entry)) t (now (choices .entry)) i marker (now (env .entry))))) ⌝ }
 {
     let mut nowhere = [0u32; 1];
-    unfold_node(file, t, frees, choices, i, mark, env, &mut nowhere, k)
+    unfold_node(file, t, frees, choices, i, marker, env, &mut nowhere, k)
 }

@@ -41,7 +41,7 @@ returns c =
     let at = counted (c .before) in
     let x = begun at .args in
     let many = sym (c .before .threads-fit .ensures) ∙ not-true _ (c .if1 .taken) in
-    (start-many (now (x .file)) (x .t) (now (x .choices)) (now (x .threads)) _ (total-is at) many, refl, refl)
+    ((start-many (now (x .file)) (x .t) (now (x .choices)) (now (x .threads)) _ (total-is at) many, refl, refl), tt)
 
 unfold-node-requires : tie.Need-unfold-node-requires
 unfold-node-requires c κs = let at = counted (c .before .before .before) in (begun at .pre .0, root (begun at) _ (at .count-threads .ensures .0))
@@ -54,7 +54,7 @@ returns-2 c =
     let x = begun at .args in
     let few = sym (fits .before .threads-fit .ensures) ∙ not-false _ (fits .if1 .left) in
     let words = rw (at .count-threads .ensures .0, begun at .pre .1) at (wrote .unfold-node .ensures .1) in
-    start-made (now (x .file)) (x .t) (now (x .choices)) (now (x .threads)) _ (total-is at) few _ _ words
+    (start-made (now (x .file)) (x .t) (now (x .choices)) (now (x .threads)) _ (total-is at) few _ _ words, refl)
 
 pub start-with-spec : {M : Type 1} → statement M
 start-with-spec =

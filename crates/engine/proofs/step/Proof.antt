@@ -24,7 +24,7 @@ passes : (c : tie.Else1) → let x = begun (c .before .before) .args in
 passes c = sym (c .before .before .lists-formed .ensures .1) ∙ not-false _ (c .if1 .left)
 
 returns : tie.Need-returns
-returns c = (checked-23 _ _ _ (sym (c .before .before .lists-formed .ensures .1) ∙ not-true _ (c .if1 .taken)), refl, refl)
+returns c = ((checked-23 _ _ _ (sym (c .before .before .lists-formed .ensures .1) ∙ not-true _ (c .if1 .taken)), refl, refl), tt)
 
 step-formed-requires : tie.Need-step-formed-requires
 step-formed-requires c κs = let at = c .before .before .before in (prepared (at .before .before), passes at)

@@ -18,7 +18,7 @@ begun c = c .before .before .before .before .before .before
 returns : tie.Need-returns
 returns c =
     let x = c .before .before .before .before .before .before .args in
-    (step-24 (now (x .file)) (x .t) (now (x .threads)) (now (x .markers)) (x .counts) (now (x .choices)) (x .r) (x .s) (c .if1 .taken), refl, refl)
+    ((step-24 (now (x .file)) (x .t) (now (x .threads)) (now (x .markers)) (x .counts) (now (x .choices)) (x .r) (x .s) (c .if1 .taken), refl, refl), tt)
 
 pair-refusal-requires : tie.Need-pair-refusal-requires
 pair-refusal-requires c κs =
@@ -44,7 +44,7 @@ returns-2 c =
     let ml = now (x .markers) in
     let ch = now (x .choices) in
     let b = inside f (x .t) l ml (x .counts) ch (x .r) (x .s) (at .if1 .left) in
-    (step-refused f (x .t) l ml (x .counts) ch (x .r) (x .s) (b .0) (b .1) _ (c .before .pair-refusal .ensures) (c .if2 .taken), refl, refl)
+    ((step-refused f (x .t) l ml (x .counts) ch (x .r) (x .s) (b .0) (b .1) _ (c .before .pair-refusal .ensures) (c .if2 .taken), refl, refl), tt)
 
 fire-requires : tie.Need-fire-requires
 fire-requires c κs =

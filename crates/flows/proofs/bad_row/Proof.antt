@@ -1,6 +1,6 @@
 -- The loop's invariant: the test by marks finds nothing at the rows passed, and the marks are the table's bits. So the test of all rows
 -- is refusal 19 (`rows-checked`).
-use Prim.Native.Nat.{ℕ, _*_, _≤_, _<_, _-_}
+use Prim.Native.Nat.{ℕ, _≤_, _<_, _-_}
 use mathlib.Core.Path.{_≡_, sym, _∙_}
 use mathlib.Core.List.{List}
 use denote.Ref.{now}

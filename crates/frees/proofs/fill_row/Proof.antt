@@ -1,5 +1,5 @@
 -- `frees::fill_row` meets its contract. The loop's invariant: the first w words of row i are right, and every word outside row i is as it was.
-use Prim.Native.Nat.{_+_, _*_, _-_, _≤_, _<_}
+use Prim.Native.Nat.{_-_, _≤_, _<_}
 use native.Mathlib.Omega.{arith}
 use mathlib.Core.Path.{_≡_, refl, ap, _∙_}
 use denote.Ref.{now}

@@ -36,7 +36,8 @@ returns-2 c =
     let a = admitted f ch _ (at-admitted2 (c .before .before .before) .before .before .admit .ensures) _
     (at-admitted2 (c .before .before .before) .admitted2 .given .1) in
     rw (c .numbered .ensures)
-    (start-stopped f ch _ a (now (x .threads)) _ _ (c .before .before .before .before .before .before .start .ensures) _ (c .before .before .fired .given .1))
+    (start-stopped f ch _ a (now (x .threads)) _ _ (c .before .before .before .before .before .before .start .ensures .0) _
+    (c .before .before .fired .given .1))
 
 returns-3 : tie.Need-returns-3
 returns-3 c =
@@ -45,7 +46,7 @@ returns-3 c =
     let ch = now (x .choices) in
     let a = admitted f ch _ (at-admitted2-too (c .before .before) .before .before .admit .ensures) _
     (c .before .before .before .before .before .before .before .before .admitted2 .given .1) in
-    start-started f ch _ a (now (x .threads)) _ _ (c .before .before .before .before .before .start .ensures) _ _ (c .before .fired2 .given .1)
+    start-started f ch _ a (now (x .threads)) _ _ (c .before .before .before .before .before .start .ensures .0) _ _ (c .before .fired2 .given .1)
 
 pub start-spec : {M : Type 1} → statement M
 start-spec =

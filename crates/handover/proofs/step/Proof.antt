@@ -42,7 +42,7 @@ returns-2 c =
     (at-threads (c .before) .before .before .before .before .before .admitted2 .given .1) in
     rw (c .numbered .ensures)
     (step-stopped f ch _ a (now (x .threads)) (now (x .markers)) (x .counts) (x .receiver) (x .sender) _ _ _
-    (c .before .before .before .before .before .before .before .before .step .ensures) _ (c .before .before .fired .given .1))
+    (c .before .before .before .before .before .before .before .before .step .ensures .0) _ (c .before .before .fired .given .1))
 
 returns-3 : tie.Need-returns-3
 returns-3 c =
@@ -52,7 +52,7 @@ returns-3 c =
     let a = admitted f ch _ (at-match (at-threads-too c) .before .admit .ensures) _
     (at-threads-too c .before .before .before .before .before .admitted2 .given .1) in
     step-made f ch _ a (now (x .threads)) (now (x .markers)) (x .counts) (x .receiver) (x .sender) _ _ _
-    (c .before .before .before .before .before .before .before .step .ensures) _ _ (c .before .fired2 .given .1)
+    (c .before .before .before .before .before .before .before .step .ensures .0) _ _ (c .before .fired2 .given .1)
 
 pub step-spec : {M : Type 1} → statement M
 step-spec =

@@ -4,7 +4,7 @@ use denote.Ref.{now}
 use lib.ListN.{length-set}
 use native.Mathlib.Omega.{arith}
 use borrow.Author.Needs.{needs}
-use Rattle.markers.proofs.Laws.{put-four}
+use Rattle.laws.proofs.Put.{put-four}
 use Rattle.markers.proofs.add_entry.Statement.{statement}
 use Rattle.markers.proofs.add_entry.Tie as tie
 

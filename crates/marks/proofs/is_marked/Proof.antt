@@ -1,5 +1,4 @@
 -- What it computes is the definition, and a name below 256 has its bit in one of four words.
-use mathlib.Core.Path.{refl}
 use borrow.Author.Needs.{needs}
 use Rattle.marks.specs.Marks.{marked}
 use Rattle.marks.proofs.is_marked.Statement.{statement}
@@ -7,10 +6,7 @@ use Rattle.marks.proofs.is_marked.Tie as tie
 
 returns : tie.Need-returns
 unfolding marked
-returns c = refl
+returns c = rw (c .before .index-of .ensures)
 
 pub is-marked-spec : {M : Type 1} → statement M
-is-marked-spec =
-    tie.close
-    (tie.spec
-    (λ c. search needs) (λ c. search needs) (λ c. search needs) (λ c. search needs) (λ c. search needs) returns)
+is-marked-spec = tie.close (tie.spec (λ c κs. search needs) (λ c. search needs) (λ c. search needs) (λ c. search needs) returns)

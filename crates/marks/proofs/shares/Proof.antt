@@ -7,7 +7,7 @@ use Rattle.marks.proofs.shares.Tie as tie
 returns : tie.Need-returns
 returns c =
     let x = c .before .before .before .before .before .args in
-    cc (share-words (x .table .now) (x .u) (x .v))
+    cc (share-words (x .rows .now) (x .u) (x .v))
 
 pub shares-spec : {M : Type 1} → statement M
 shares-spec = tie.close (tie.spec (λ c κs. search needs) (λ c κs. search needs) (λ c κs. search needs) (λ c κs. search needs) returns)

@@ -11,8 +11,8 @@ returns : tie.Need-returns
 unfolding wordsShare
 returns c =
     let x = c .before .before .before .args in
-    let one = getD (x .table .now) (wordAt (x .u) (x .w)) 0 in
-    let other = getD (x .table .now) (wordAt (x .v) (x .w)) 0 in
+    let one = getD (x .rows .now) (wordAt (x .u) (x .w)) 0 in
+    let other = getD (x .rows .now) (wordAt (x .v) (x .w)) 0 in
     let known = c .before .before .shared-slice-known .given (wordAt (x .u) (x .w)) in
     rw (c .before .word-at .ensures, c .word-at2 .ensures) (and-some 64 one other (omega (arith, known)))
 

@@ -1,5 +1,4 @@
 -- `ready::pair_refusal` meets its contract: both threads by their records.
-use Prim.Native.Nat.{_+_, _*_}
 use native.Mathlib.Omega.{arith}
 use mathlib.Core.Path.{sym, ap₂, _∙_}
 use denote.Ref.{now}

@@ -26,10 +26,10 @@ abbrev check : Array → ℕ → Found Refusal
 check a i = refuse 12 i (inScope a i)
 
 abbrev Inv-loop : tie.InvT-loop
-Inv-loop file t table i₀ i = (i ≤ t .nodes) × (first i (check (arrayOf file t)) ≡ clear)
+Inv-loop file t reach i₀ i = (i ≤ t .nodes) × (first i (check (arrayOf file t)) ≡ clear)
 
 abbrev μ-loop : tie.MeasureT-loop
-μ-loop file t table i₀ i = t .nodes - i
+μ-loop file t reach i₀ i = t .nodes - i
 
 tested :
     (c : tie.After-uses-marked Inv-loop μ-loop)

@@ -14,10 +14,10 @@ use Rattle.scopes.proofs.fill_scopes.Statement.{statement}
 use Rattle.scopes.proofs.fill_scopes.Tie as tie
 
 abbrev Inv-loop : tie.InvT-loop
-Inv-loop table₀ file t j₀ table j = (j ≤ t .nodes) × (length table ≡ 4096) × Filled (arrayOf file t) table j
+Inv-loop table₀ file t j₀ reach j = (j ≤ t .nodes) × (length reach ≡ 4096) × Filled (arrayOf file t) reach j
 
 abbrev μ-loop : tie.MeasureT-loop
-μ-loop table₀ file t j₀ table j = t .nodes - j
+μ-loop table₀ file t j₀ reach j = t .nodes - j
 
 -- stations
 abbrev at-start : tie.After-node-at Inv-loop μ-loop → tie.Start Inv-loop μ-loop
@@ -55,7 +55,7 @@ loop-again c =
     let a = arrayOf (now (x .file)) (x .t) in (
       omega arith,
       down .kept .0 ∙ l .inv .1,
-      filled-step a (p .0) (p .1) (l .table) (down .last .0) (l .j) (omega arith) (rw n (down .ensures)) (l .inv .2),
+      filled-step a (p .0) (p .1) (l .reach) (down .last .0) (l .j) (omega arith) (rw n (down .ensures)) (l .inv .2),
     )
 
 same-length : tie.Need-same-length Inv-loop μ-loop
@@ -66,7 +66,7 @@ returns c i v h k =
     let x = c .before .before .before .before .before .args in
     let p = c .before .before .before .before .before .pre .1 in
     let l = c .before .before .loop in
-    filled-all (arrayOf (now (x .file)) (x .t)) (p .0) (p .1) (l .table) (l .j) (omega arith) (l .inv .2) i v h k
+    filled-all (arrayOf (now (x .file)) (x .t)) (p .0) (p .1) (l .reach) (l .j) (omega arith) (l .inv .2) i v h k
 
 pub fill-scopes-spec : {M : Type 1} → statement M
 fill-scopes-spec =

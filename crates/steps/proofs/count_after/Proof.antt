@@ -42,7 +42,7 @@ count-threads-requires c κs =
       record {
         node = left-below (p .0 .read) (p .1 .reads) (L.receiver-agent (p .1));
         marker = p .2;
-        names = L.length-near (p .1) (u .pre .1) (now (u .args .choices)) (u .args .mark);
+        names = L.length-near (p .1) (u .pre .1) (now (u .args .choices)) (u .args .marker);
         few = omega (arith, stay (c .before), p .1 .met .few);
       },
     )
@@ -56,7 +56,7 @@ count-threads-requires-2 c κs =
       record {
         node = left-below (p .0 .read) (p .1 .other) (L.sender-agent (p .1));
         marker = omega (arith, p .1 .met .other, p .1 .met .listed);
-        names = L.length-far (p .1) (u .pre .1) (now (u .args .choices)) (u .args .mark);
+        names = L.length-far (p .1) (u .pre .1) (now (u .args .choices)) (u .args .marker);
         few = omega (arith, first .count-threads .ensures .1);
       },
     )
@@ -67,11 +67,11 @@ returns c =
     let first = second .before .before .before .before in
     let u = start (kept first) in
     let x = u .args in
-    let near = unfolded (now (x .file)) (x .t) (now (x .choices)) (x .m .p .left) (x .mark) (now (x .near)) in
+    let near = unfolded (now (x .file)) (x .t) (now (x .choices)) (x .m .p .left) (x .marker) (now (x .near)) in
     let mid = first .count-threads .ensures .1 ∙ ap (λ (k : ℕ). min 257 (k + length near)) (stay (kept first)) in (
       first .count-threads .ensures .0,
       second .count-threads2 .ensures .0,
-      L.count-is (u .pre .0 .1) (u .pre .1) (now (x .choices)) (x .mark) _ _ mid (second .count-threads2 .ensures .1),
+      L.count-is (u .pre .0 .1) (u .pre .1) (now (x .choices)) (x .marker) _ _ mid (second .count-threads2 .ensures .1),
     )
 
 pub count-after-spec : {M : Type 1} → statement M

@@ -50,7 +50,7 @@ unfold-node-requires c κs =
       record {
         node = left-below (p .0 .read) (p .1 .reads) (L.receiver-agent (p .1));
         marker = p .2;
-        names = L.length-near (p .1) (u .pre .1 .0) (now (u .args .choices)) (u .args .mark);
+        names = L.length-near (p .1) (u .pre .1 .0) (now (u .args .choices)) (u .args .marker);
         few = omega (arith, stay at, p .1 .met .few);
       },
     )
@@ -64,7 +64,7 @@ unfold-node-requires-2 c κs =
       record {
         node = left-below (p .0 .read) (p .1 .other) (L.sender-agent (p .1));
         marker = omega (arith, p .1 .met .other, p .1 .met .listed);
-        names = L.length-far (p .1) (u .pre .1 .0) (now (u .args .choices)) (u .args .mark);
+        names = L.length-far (p .1) (u .pre .1 .0) (now (u .args .choices)) (u .args .marker);
         few = omega (arith, first .unfold-node .ensures .1 .counted);
       },
     )
@@ -80,7 +80,7 @@ returns c =
     let stays = at .keep-threads .ensures
     ∙ ap (λ (b : Bool). put 0 (wordsOf (keep (remains b (x .m .receiver) (x .m .sender)) (threadsIn (x .t .names) (x .counts .threads) l))) l)
     (kept at .before .is-resource .ensures) in
-    L.words-are (u .pre .0 .1) (u .pre .1 .0) (now (x .choices)) (x .mark) _ _ _ _ _ _ (stay (kept at)) stays (at .keep-threads .kept .0)
+    L.words-are (u .pre .0 .1) (u .pre .1 .0) (now (x .choices)) (x .marker) _ _ _ _ _ _ (stay (kept at)) stays (at .keep-threads .kept .0)
     (first .unfold-node .ensures .1) (first .unfold-node .kept .1 .1 .1 .1 .1 .1 .1 .0) (second .unfold-node2 .ensures .1) (u .pre .1 .1)
 
 pub write-after-spec : {M : Type 1} → statement M

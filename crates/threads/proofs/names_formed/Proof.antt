@@ -1,5 +1,5 @@
 -- `threads::names_formed` meets its contract. The loop's invariant: the words of the first v names are well formed.
-use Prim.Native.Nat.{ℕ, _+_, _*_, _-_, _≤_}
+use Prim.Native.Nat.{ℕ, _+_, _-_, _≤_}
 use native.Mathlib.Omega.{arith}
 use mathlib.Core.Path.{_≡_, sym, ap, _∙_}
 use mathlib.Core.Bool.{Bool, true}
@@ -17,13 +17,13 @@ use Rattle.threads.proofs.names_formed.Tie as tie
 
 -- name v's word is well formed
 abbrev wordsTest : List ℕ → List ℕ → ℕ → ℕ → List ℕ → ℕ → ℕ → Bool
-wordsTest frees news marks i threads at v = wordOk (marked news 0) marks (marked frees i v) (getD threads (at + v) 0)
+wordsTest frees news listed i threads at v = wordOk (marked news 0) listed (marked frees i v) (getD threads (at + v) 0)
 
 abbrev Inv-loop : tie.InvT-loop
-Inv-loop frees news names marks i threads at v₀ v = (v ≤ names) × (every v (wordsTest frees news marks i threads at) ≡ true)
+Inv-loop frees news names listed i threads at v₀ v = (v ≤ names) × (every v (wordsTest frees news listed i threads at) ≡ true)
 
 abbrev μ-loop : tie.MeasureT-loop
-μ-loop frees news names marks i threads at v₀ v = names - v
+μ-loop frees news names listed i threads at v₀ v = names - v
 
 -- the start, seen from the loop
 abbrev begun : tie.At-loop Inv-loop μ-loop → tie.Start Inv-loop μ-loop
@@ -36,11 +36,11 @@ returns : tie.Need-returns Inv-loop μ-loop
 returns c =
     let x = begun (c .before .before .before .before .before) .args in
     let l = c .before .before .before .before .before .loop in
-    let f : ℕ → Bool = wordsTest (now (x .frees)) (now (x .news)) (x .marks) (x .i) (now (x .threads)) (x .at) in
+    let f : ℕ → Bool = wordsTest (now (x .frees)) (now (x .news)) (x .listed) (x .i) (now (x .threads)) (x .at) in
     let word = getD (now (x .threads)) (x .at + l .v) 0 in
     let e : c .before .word-formed .result ≡ f (l .v) =
     c .before .word-formed .ensures
-    ∙ ap (λ (b : Bool). wordOk (marked (now (x .news)) 0) (x .marks) b word) (c .before .before .before .is-marked .ensures) in
+    ∙ ap (λ (b : Bool). wordOk (marked (now (x .news)) 0) (x .listed) b word) (c .before .before .before .is-marked .ensures) in
     let below = c .before .before .before .before .loop-test .taken in
     sym (false-every (x .names) f (l .v) below (sym e ∙ not-true (c .before .word-formed .result) (c .if1 .taken)))
 
@@ -48,11 +48,11 @@ loop-again : tie.Need-loop-again Inv-loop μ-loop
 loop-again c =
     let x = begun (c .before .before .before .before .before) .args in
     let l = c .before .before .before .before .before .loop in
-    let f : ℕ → Bool = wordsTest (now (x .frees)) (now (x .news)) (x .marks) (x .i) (now (x .threads)) (x .at) in
+    let f : ℕ → Bool = wordsTest (now (x .frees)) (now (x .news)) (x .listed) (x .i) (now (x .threads)) (x .at) in
     let word = getD (now (x .threads)) (x .at + l .v) 0 in
     let e : c .before .word-formed .result ≡ f (l .v) =
     c .before .word-formed .ensures
-    ∙ ap (λ (b : Bool). wordOk (marked (now (x .news)) 0) (x .marks) b word) (c .before .before .before .is-marked .ensures) in
+    ∙ ap (λ (b : Bool). wordOk (marked (now (x .news)) 0) (x .listed) b word) (c .before .before .before .is-marked .ensures) in
     (omega arith, every-pass f (l .v) (l .inv .1) (sym e ∙ not-false (c .before .word-formed .result) (c .if1 .left)))
 
 returns-2 : tie.Need-returns-2 Inv-loop μ-loop
@@ -60,7 +60,7 @@ returns-2 c =
     let x = c .before .before .before .before .before .args in
     let l = c .before .loop in
     let done : l .v ≡ x .names = omega arith in
-    sym (ap (λ (n : ℕ). every n (wordsTest (now (x .frees)) (now (x .news)) (x .marks) (x .i) (now (x .threads)) (x .at))) (sym done) ∙ l .inv .1)
+    sym (ap (λ (n : ℕ). every n (wordsTest (now (x .frees)) (now (x .news)) (x .listed) (x .i) (now (x .threads)) (x .at))) (sym done) ∙ l .inv .1)
 
 pub names-formed-spec : {M : Type 1} → statement M
 names-formed-spec =

@@ -34,7 +34,7 @@ returns : tie.Need-returns
 returns c =
     let x = begun (c .before) .args in
     let here = c .before .before .before .word-index .ensures .0 in
-    no-agent (array (c .before)) (x .marks) (x .at) (now (x .threads)) _ here (sym (not-true _ (c .if1 .taken)) ∙ tested (c .before))
+    no-agent (array (c .before)) (x .listed) (x .at) (now (x .threads)) _ here (sym (not-true _ (c .if1 .taken)) ∙ tested (c .before))
 
 returns-2 : tie.Need-returns-2
 returns-2 c =
@@ -42,7 +42,7 @@ returns-2 c =
     let x = begun (found .before) .args in
     let here = found .before .before .before .word-index .ensures .0 in
     let m = c .before .word-index2 .ensures .0 in
-    marker-past (array (found .before)) (x .marks) (x .at) (now (x .threads)) _ here (agent found) (omega arith)
+    marker-past (array (found .before)) (x .listed) (x .at) (now (x .threads)) _ here (agent found) (omega arith)
 
 names-formed-requires : tie.Need-names-formed-requires
 names-formed-requires c κs =
@@ -61,7 +61,7 @@ returns-3 c =
     let here = found .before .before .before .word-index .ensures .0 in
     let m = c .before .before .word-index2 .ensures .0 in
     c .names-formed .ensures
-    ∙ names-tell (array (found .before)) (x .marks) (x .at) (now (x .threads)) _ here (agent found) (now (x .frees)) (now (x .news)) (p .1 .0 .1) (p .1 .1 .1)
+    ∙ names-tell (array (found .before)) (x .listed) (x .at) (now (x .threads)) _ here (agent found) (now (x .frees)) (now (x .news)) (p .1 .0 .1) (p .1 .1 .1)
     (inside found) (p .0 .0 .formed .fewNames) (omega arith)
 
 pub thread-formed-spec : {M : Type 1} → statement M

@@ -22,19 +22,19 @@ use Rattle.threads.proofs.threads_formed.Tie as tie
 
 -- thread i is well formed
 abbrev threadTest : List ℕ → Trailer → ℕ → List ℕ → ℕ → ℕ → Bool
-threadTest file t marks threads count i = threadFormed (arrayOf file t) marks (getD (threadsIn (t .names) count threads) i nobody)
+threadTest file t listed threads count i = threadFormed (arrayOf file t) listed (getD (threadsIn (t .names) count threads) i nobody)
 
-test-at : (file : List ℕ) (t : Trailer) (marks : ℕ) (threads : List ℕ) (count i at : ℕ) → i < count → at ≡ i * (2 + t .names)
-    → threadFormed (arrayOf file t) marks (threadIn (t .names) (drop at threads)) ≡ threadTest file t marks threads count i
-test-at file t marks threads count i at h e =
-    ap (threadFormed (arrayOf file t) marks) (ap (λ (k : ℕ). threadIn (t .names) (drop k threads)) e ∙ sym (threads-at (t .names) i count threads h))
+test-at : (file : List ℕ) (t : Trailer) (listed : ℕ) (threads : List ℕ) (count i at : ℕ) → i < count → at ≡ i * (2 + t .names)
+    → threadFormed (arrayOf file t) listed (threadIn (t .names) (drop at threads)) ≡ threadTest file t listed threads count i
+test-at file t listed threads count i at h e =
+    ap (threadFormed (arrayOf file t) listed) (ap (λ (k : ℕ). threadIn (t .names) (drop k threads)) e ∙ sym (threads-at (t .names) i count threads h))
 
 abbrev Inv-loop : tie.InvT-loop
-Inv-loop file t frees news marks threads count width at₀ i₀ at i =
-    (i ≤ count) × (at ≡ i * (2 + t .names)) × (every i (threadTest file t marks threads count) ≡ true)
+Inv-loop file t frees news listed threads count width at₀ i₀ at i =
+    (i ≤ count) × (at ≡ i * (2 + t .names)) × (every i (threadTest file t listed threads count) ≡ true)
 
 abbrev μ-loop : tie.MeasureT-loop
-μ-loop file t frees news marks threads count width at₀ i₀ at i = count - i
+μ-loop file t frees news listed threads count width at₀ i₀ at i = count - i
 
 -- the start, seen from the loop
 abbrev begun : tie.At-loop Inv-loop μ-loop → tie.Start Inv-loop μ-loop
@@ -55,10 +55,10 @@ unfolding threadsFormed
 returns c =
     let x = begun (c .before .before .before) .args in
     let l = c .before .before .before .loop in
-    let f : ℕ → Bool = threadTest (now (x .file)) (x .t) (x .marks) (now (x .threads)) (x .count) in
+    let f : ℕ → Bool = threadTest (now (x .file)) (x .t) (x .listed) (now (x .threads)) (x .count) in
     let e : c .before .thread-formed .result ≡ f (l .i) =
     c .before .thread-formed .ensures
-    ∙ test-at (now (x .file)) (x .t) (x .marks) (now (x .threads)) (x .count) (l .i) (l .at) (c .before .before .loop-test .taken) (l .inv .1) in
+    ∙ test-at (now (x .file)) (x .t) (x .listed) (now (x .threads)) (x .count) (l .i) (l .at) (c .before .before .loop-test .taken) (l .inv .1) in
     sym (false-every (x .count) f (l .i) (c .before .before .loop-test .taken) (sym e ∙ not-true (c .before .thread-formed .result) (c .if1 .taken)))
 
 add-at : tie.Need-add-at Inv-loop μ-loop
@@ -72,10 +72,10 @@ loop-again : tie.Need-loop-again Inv-loop μ-loop
 loop-again c =
     let x = begun (c .before .before .before) .args in
     let l = c .before .before .before .loop in
-    let f : ℕ → Bool = threadTest (now (x .file)) (x .t) (x .marks) (now (x .threads)) (x .count) in
+    let f : ℕ → Bool = threadTest (now (x .file)) (x .t) (x .listed) (now (x .threads)) (x .count) in
     let e : c .before .thread-formed .result ≡ f (l .i) =
     c .before .thread-formed .ensures
-    ∙ test-at (now (x .file)) (x .t) (x .marks) (now (x .threads)) (x .count) (l .i) (l .at) (c .before .before .loop-test .taken) (l .inv .1) in
+    ∙ test-at (now (x .file)) (x .t) (x .listed) (now (x .threads)) (x .count) (l .i) (l .at) (c .before .before .loop-test .taken) (l .inv .1) in
     let s = next-slot (x .t .names) (l .i) in
     (omega arith, omega arith, every-pass f (l .i) (l .inv .2) (sym e ∙ not-false (c .before .thread-formed .result) (c .if1 .left)))
 
@@ -85,7 +85,7 @@ returns-2 c =
     let x = c .before .before .before .before .before .before .before .args in
     let l = c .before .loop in
     let done : l .i ≡ x .count = omega arith in
-    sym (ap (λ (n : ℕ). every n (threadTest (now (x .file)) (x .t) (x .marks) (now (x .threads)) (x .count))) (sym done) ∙ l .inv .2)
+    sym (ap (λ (n : ℕ). every n (threadTest (now (x .file)) (x .t) (x .listed) (now (x .threads)) (x .count))) (sym done) ∙ l .inv .2)
 
 pub threads-formed-spec : {M : Type 1} → statement M
 threads-formed-spec =

@@ -41,7 +41,7 @@ returns-4 c =
     let o : c .is-marked .result ≡ marked (now (x .news)) 0 (newIn (x .x)) =
     c .is-marked .ensures ∙ ap (λ (n : ℕ). marked (now (x .news)) 0 (n / 65536)) e in
     rw (not-false (x .free) (c .before .before .before .before .if1 .left), ne-eqb (x .x) 0 (c .before .before .before .if2 .left))
-    (ap₂ (λ (b : Bool) (n : ℕ). b && leb (n % 65536) (x .marks)) o e)
+    (ap₂ (λ (b : Bool) (n : ℕ). b && leb (n % 65536) (x .listed)) o e)
 
 pub word-formed-spec : {M : Type 1} → statement M
 word-formed-spec =

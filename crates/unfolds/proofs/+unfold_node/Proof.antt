@@ -132,7 +132,7 @@ module _ (n : ℕ) where
       let read = c .before .before in
       let x = begun read .args in
       let stop = sym (c .before .is-stop .ensures) ∙ c .if1 .taken in
-      (refl, U.written-none (U.unfolded-stop (here read) (now (x .choices)) (x .mark) (now (x .env)) stop) (begun read .pre .1 .1 .few))
+      (refl, U.written-none (U.unfolded-stop (here read) (now (x .choices)) (x .marker) (now (x .env)) stop) (begun read .pre .1 .1 .few))
 
   unfold-node-is-new-requires : unfold-node-lts.Need-is-new-requires (calls n) (unfold-node-at n) unfold-node.Post
   unfold-node-is-new-requires c κs = search needs
@@ -193,8 +193,8 @@ module _ (n : ℕ) where
       let v = at-new at .node-at .result .name in
       let e = called c .unfold-node .ensures in
       let word = ap (λ (w : ℕ). set (now (x .env)) v w) (called c .before .before .before .opened-word .ensures) in
-      let law = U.unfolded-new (here (at-new at)) (now (x .choices)) (x .mark) (now (x .env)) (is-new at) in
-      (U.restored (now (x .env)) v _ (e .0), U.written-same (e .1) (law ∙ ap (unfolded (now (x .file)) (x .t) (now (x .choices)) _ (x .mark)) (sym word)))
+      let law = U.unfolded-new (here (at-new at)) (now (x .choices)) (x .marker) (now (x .env)) (is-new at) in
+      (U.restored (now (x .env)) v _ (e .0), U.written-same (e .1) (law ∙ ap (unfolded (now (x .file)) (x .t) (now (x .choices)) _ (x .marker)) (sym word)))
 
   unfold-node-is-par-requires : unfold-node-lts.Need-is-par-requires (calls n) (unfold-node-at n) unfold-node.Post
   unfold-node-is-par-requires c κs = search needs
@@ -240,10 +240,10 @@ module _ (n : ℕ) where
       let r = at-par at .node-at .result in
       let d = first .unfold-node2 .ensures in
       let e = second .unfold-node3 .ensures in
-      let part : ℕ → List ℕ → _ = λ j e. unfolded (now (x .file)) (x .t) (now (x .choices)) j (x .mark) e in
-      let law = U.unfolded-par (here (at-par at)) (now (x .choices)) (x .mark) (now (x .env)) (is-par at)
+      let part : ℕ → List ℕ → _ = λ j e. unfolded (now (x .file)) (x .t) (now (x .choices)) j (x .marker) e in
+      let law = U.unfolded-par (here (at-par at)) (now (x .choices)) (x .marker) (now (x .env)) (is-par at)
       ∙ ap (λ (v : List ℕ). part (r .left) (now (x .env)) ++ part (r .right) v) (sym (d .0)) in
-      let wide = U.wide-unfolded (now (x .file)) (x .t) (now (x .choices)) (r .left) (x .mark) (now (x .env)) (u .pre .1 .1 .names) in
+      let wide = U.wide-unfolded (now (x .file)) (x .t) (now (x .choices)) (r .left) (x .marker) (now (x .env)) (u .pre .1 .1 .names) in
       (e .0 ∙ d .0, U.written-same (U.written-both (x .t .names) wide (first .unfold-node2 .kept .1 .1 .1 .1 .1 .1 .1 .0) (d .1) (e .1)) law)
 
   unfold-node-is-choice-requires : unfold-node-lts.Need-is-choice-requires (calls n) (unfold-node-at n) unfold-node.Post
@@ -272,8 +272,8 @@ module _ (n : ℕ) where
       let side = down .before .before .before in
       let at = side .before in
       let x = begun (at-choice at) .args in
-      let law = U.unfolded-choice (here (at-choice at)) (now (x .choices)) (x .mark) (now (x .env)) (is-choice at)
-      ∙ ap (λ (j : ℕ). unfolded (now (x .file)) (x .t) (now (x .choices)) j (x .mark) (now (x .env))) (sym (side .chosen .ensures)) in
+      let law = U.unfolded-choice (here (at-choice at)) (now (x .choices)) (x .marker) (now (x .env)) (is-choice at)
+      ∙ ap (λ (j : ℕ). unfolded (now (x .file)) (x .t) (now (x .choices)) j (x .marker) (now (x .env))) (sym (side .chosen .ensures)) in
       let e = down .unfold-node4 .ensures in
       (e .0, U.written-same (e .1) law)
 
@@ -301,7 +301,7 @@ module _ (n : ℕ) where
       let x = u .args in
       let p = u .pre .1 in (
         refl,
-        U.written-agent (here (at-agent at)) (now (x .choices)) (x .mark) (now (x .env)) (is-agent at) (p .1 .names) (now (x .frees)) (p .0 .free)
+        U.written-agent (here (at-agent at)) (now (x .choices)) (x .marker) (now (x .env)) (is-agent at) (p .1 .names) (now (x .frees)) (p .0 .free)
             (placed .place-thread .ensures) (c .one-more .ensures),
       )
 

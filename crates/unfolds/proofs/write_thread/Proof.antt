@@ -1,5 +1,4 @@
 -- Two words are set, and the names' words are put right behind them.
-use Prim.Native.Nat.{_*_}
 use native.Mathlib.Omega.{arith}
 use mathlib.Core.Path.{_∙_}
 use mathlib.Core.List.{[]}
@@ -23,7 +22,7 @@ returns : tie.Need-returns
 returns c =
     let x = c .before .before .before .before .before .before .before .args in
     let n = length-cut (words []) (marked (now (x .frees)) (x .i)) 0 (now (x .env)) in
-    c .before .before .write-names .ensures ∙ thread-put (x .at) (x .i) (x .mark) _ (now (x .threads)) (omega arith)
+    c .before .before .write-names .ensures ∙ thread-put (x .at) (x .i) (x .marker) _ (now (x .threads)) (omega arith)
 
 pub write-thread-spec : {M : Type 1} → statement M
 write-thread-spec =

@@ -1,4 +1,4 @@
--- An in keeps its marker (`in-mark`); a resource's is searched for, and found or one more (`own-mark`).
+-- An in keeps its marker (`in-marker`); a resource's is searched for, and found or one more (`own-marker`).
 use Prim.Native.Nat.{ℕ, _+_, _≤_, max}
 use native.Mathlib.Omega.{arith}
 use mathlib.Core.Path.{refl, sym, ap, _∙_}
@@ -9,9 +9,9 @@ use Rattle.model.specs.Memory.{entriesIn}
 use Rattle.model.proofs.Markers.{position-le}
 use Rattle.model.proofs.Memory.{length-entries}
 use Rattle.markers.specs.Markers.{entryOf}
-use Rattle.steps.proofs.Laws.{in-mark, own-mark}
-use Rattle.steps.proofs.mark_of.Statement.{statement}
-use Rattle.steps.proofs.mark_of.Tie as tie
+use Rattle.steps.proofs.Laws.{in-marker, own-marker}
+use Rattle.steps.proofs.marker_for.Statement.{statement}
+use Rattle.steps.proofs.marker_for.Tie as tie
 
 -- the start, seen from the entry
 abbrev begun : tie.After-entry-of → tie.Start
@@ -32,7 +32,7 @@ returns c =
     let made = c .before .before .before in
     let u = begun made in
     let e = sym (c .before .before .is-resource .ensures) ∙ not-true _ (c .before .if1 .taken) in
-    in-mark (u .pre .0) (now (u .args .markers)) e _ refl refl
+    in-marker (u .pre .0) (now (u .args .markers)) e _ refl refl
 
 add-t11 : tie.Need-add-t11
 add-t11 c = let h = small c in search needs
@@ -49,11 +49,11 @@ returns-2 c =
     let u = begun made in
     let e = sym (c .before .before .before .is-resource .ensures) ∙ not-false _ (c .before .before .if1 .left) in
     let at = c .before .find-entry .ensures in
-    own-mark (u .pre .0) (now (u .args .markers)) e _ (made .entry-of .ensures) (ap (λ (k : ℕ). k + 1) at)
+    own-marker (u .pre .0) (now (u .args .markers)) e _ (made .entry-of .ensures) (ap (λ (k : ℕ). k + 1) at)
     (c .at-least .ensures ∙ ap (λ (k : ℕ). max (k + 1) (u .args .counts .markers)) at)
 
-pub mark-of-spec : {M : Type 1} → statement M
-mark-of-spec =
+pub marker-for-spec : {M : Type 1} → statement M
+marker-for-spec =
     tie.close
     (tie.spec
     (λ c. search needs) (λ c. search needs) (λ c. search needs) (λ c κs. search needs) (λ c κs. search needs) (λ c. search needs)
