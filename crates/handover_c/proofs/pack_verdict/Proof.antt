@@ -23,7 +23,9 @@ pack-rule-requires-2 c κs =
 pack-rule-requires-3 : tie.Need-pack-rule-requires-3
 pack-rule-requires-3 c κs =
     let h = subst (λ (y : Verdict). FitsReply FitsOutcome TableNumber (says y)) (c .before .v4 .given .1) (c .before .before .before .pre) in
-    (omega arith, h .2 .0, h .2 .1, h .2 .2)
+    let p = h .2 .0 in
+    let q = h .2 .1 in
+    (omega arith, omega arith, omega arith, h .2 .2)
 
 pack-rule-requires-4 : tie.Need-pack-rule-requires-4
 pack-rule-requires-4 c κs =

@@ -1,6 +1,7 @@
 -- `ready::meets` meets its contract: the three tests in their order.
 use mathlib.Core.Bool.{not, _&&_}
 use lib.Dec.{eqb}
+use native.Mathlib.Omega.{arith}
 use borrow.Author.Tests.{not-true, not-false, eq-eqb, ne-eqb}
 use Rattle.ready.specs.Ready.{meet}
 use Rattle.ready.proofs.meets.Statement.{statement}
@@ -18,7 +19,8 @@ unfolding meet
 returns-2 c =
     let x = c .before .before .before .before .before .before .args in
     let one = x .p .receives && x .q .sends in
-    rw (not-false one (c .before .before .before .if1 .left), ne-eqb (x .p .arity) (x .q .arity) (c .if2 .taken))
+    let two = ne-eqb (x .p .arity) (x .q .arity) (λ e. absurd (omega (arith, c .if2 .taken))) in
+    rw (not-false one (c .before .before .before .if1 .left), two)
 
 returns-3 : tie.Need-returns-3
 unfolding meet
