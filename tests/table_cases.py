@@ -66,11 +66,11 @@ FILES["apart"] = pis([rec(NEW, 1, name=0), rec(NEW, 2, name=1), rec(PAR, 3, 5), 
 # Like C, but the receiver (4) leaves a sender (5).
 FILES["either"] = pis([rec(NEW, 1, name=0), rec(CHOICE, 2, 4), rec(OUT, 3, name=0), rec(STOP), rec(IN, 5, name=0), rec(OUT, 6, name=0), rec(STOP)], 1)
 arities, one_of_two, apart, either = (FILES[name] for name in ("arities", "one-of-two", "apart", "either"))
-# 208 news, so that numbers stand in every byte of a row up to the 26th; then a sender (209) of names 70, 135 and 200 and its receiver (210).
-FILES["many"] = pis([rec(NEW, i + 1, name=i) for i in range(208)]
-                    + [rec(PAR, 209, 210), rec(OUT, 211, name=0, args=[70, 135, 200]), rec(IN, 212, name=0, args=[208, 209, 210]), rec(STOP), rec(STOP)], 211)
+# 253 news, so that numbers stand in every byte of a row; then a sender (254) of names 70, 135 and 252 and its receiver (255).
+FILES["many"] = pis([rec(NEW, i + 1, name=i) for i in range(253)]
+                    + [rec(PAR, 254, 255), rec(OUT, 256, name=0, args=[70, 135, 252]), rec(IN, 257, name=0, args=[253, 254, 255]), rec(STOP), rec(STOP)], 256)
 many = FILES["many"]
-own = [row(o) for o in range(208)]
+own = [row(o) for o in range(253)]
 
 
 def second(w6):
@@ -107,11 +107,11 @@ CASES = [
     ("two", "two-held", pic(two, [row(0), row(1), row(1), row(1)]), "held 13 4 0 0"),
     ("wide", "wide-last-argument", pic(wide, [row(0), row(1)] + [row(0)] * 8), "rule 3 4 3 8"),
     ("wide", "wide-held", pic(wide, [row(0), row(1)] + [row(0, 1)] * 8), "held 7 10 0 0"),
-    # the bits of each byte of a row: with two of them exchanged, some row lacks its own number (rule 1)
-    ("many", "many-held", pic(many, own + [row(70), row(135), row(200)]), "held 213 211 0 0"),
-    ("many", "many-row-200", pic(many, own[:200] + [row(136)] + own[201:] + [row(70), row(135), row(200)]), "rule 1 200"),
-    ("many", "many-second-argument", pic(many, own + [row(70), row(70, 200), row(200)]), "rule 3 210 209 2"),
-    ("many", "many-third-argument", pic(many, own + [row(70), row(135), row(72, 136, 207)]), "rule 3 210 209 3"),
+    # a number in each byte of a row: with two bytes exchanged, some row lacks its own number (rule 1)
+    ("many", "many-held", pic(many, own + [row(70), row(135), row(252)]), "held 258 256 0 0"),
+    ("many", "many-row-200", pic(many, own[:200] + [row(136)] + own[201:] + [row(70), row(135), row(252)]), "rule 1 200"),
+    ("many", "many-second-argument", pic(many, own + [row(70), row(70, 252), row(252)]), "rule 3 255 254 2"),
+    ("many", "many-third-argument", pic(many, own + [row(70), row(135), row(124, 188, 251)]), "rule 3 255 254 3"),
     # not live: arities differ. Live, the first would break rule 4 at 3 2 0, since 5 alone has a weight; the second rule 3 at 4 3 1.
     ("arities", "arities-differ", pic(arities, [row(0), row()], [balance(1, {5: 1}, 7)]), "held 7 2 1 0"),
     ("one-of-two", "one-of-two", pic(one_of_two, [row(0), row(1), row()]), "held 7 3 0 0"),

@@ -37,9 +37,9 @@ Begins f t choices l e l′ =
 unfoldable pub checkedStep : Array → Memory → Attempt → Result
 checkedStep a m u = cond (formed a m) (stepIn a m u) (stops 23)
 
--- the step of threads r and s where the lists are well formed
-abbrev pub FiresFormed : List ℕ → Trailer → List ℕ → List ℕ → List ℕ → Counts → ℕ → ℕ → Fired → List ℕ → List ℕ → Type 0
-FiresFormed f t choices l ml n r s e l′ ml′ =
+-- 23, or the step of threads r and s
+abbrev pub FiresChecked : List ℕ → Trailer → List ℕ → List ℕ → List ℕ → Counts → ℕ → ℕ → Fired → List ℕ → List ℕ → Type 0
+FiresChecked f t choices l ml n r s e l′ ml′ =
     let a = arrayOf f t in
     let m = lentOf l ml n in
     let u = try (choicesOf choices) r s in

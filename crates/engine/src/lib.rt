@@ -14,7 +14,7 @@ ghost use Rattle.unfolds.specs.Unfold.{Prepared};
 ghost use Rattle.lent.specs.Lent.{lentOf};
 ghost use Rattle.steps.specs.Steps.{Fires};
 ghost use Rattle.ready.specs.Ready.{meeting};
-ghost use Rattle.engine.specs.Engine.{Begins, FiresFormed, Strides, walkedOf, WalkedAs, Turns};
+ghost use Rattle.engine.specs.Engine.{Begins, FiresChecked, Strides, walkedOf, WalkedAs, Turns};
 use lent::Counts;
 use model::Ending;
 use ready::Ready;
@@ -173,7 +173,7 @@ pub fn step(
     s: usize,
 ) -> Fired
     requires { ⌜ IsRead (now file) t × (length (now choices) ≡ 128) ⌝ }
-    ensures { λ e. ⌜ FiresFormed (now (file .entry)) t (now (choices .entry)) (now (threads .entry)) (now (markers .entry)) counts r s
+    ensures { λ e. ⌜ FiresChecked (now (file .entry)) t (now (choices .entry)) (now (threads .entry)) (now (markers .entry)) counts r s
         e (now (threads .exit)) (now (markers .exit)) ⌝ }
 {
     let mut frees = [0u64; 4096];

@@ -112,8 +112,8 @@ abbrev pub nodesC : List (List ℕ)
 nodesC = new 0 1 ∷ choice 2 4 ∷ plain 4 0 3 ∷ stop ∷ plain 5 0 5 ∷ stop ∷ []
 
 -- A's table: rows by their first bytes, the bound, the weights of nodes 5 and 6, the claim's most
-abbrev pub tableBytes : ℕ → ℕ → ℕ → ℕ → ℕ → List ℕ
-tableBytes row1 row2 bound w6 most =
+abbrev pub tableBytesA : ℕ → ℕ → ℕ → ℕ → ℕ → List ℕ
+tableBytesA row1 row2 bound w6 most =
     pic (sumOf 3 nodesA) (row 1 ∷ row row1 ∷ row row2 ∷ []) bound (0 ∷ 0 ∷ 0 ∷ 0 ∷ 0 ∷ 1 ∷ w6 ∷ 0 ∷ []) (claimBytes 6 most ∷ [])
 
 -- A's table with a second balance, w5 = 300 and w6 = 299, and a claim on it
@@ -140,17 +140,17 @@ case f s x = record { array = f; table = s; says = x }
 abbrev pub cases : List Case
 cases =
     -- *A is accepted. For A: `held 8 3 1 1`.
-    case (pis 3 nodesA) (tableBytes 2 2 1 1 1) (held (sizes 8 3 1 1))
+    case (pis 3 nodesA) (tableBytesA 2 2 1 1 1) (held (sizes 8 3 1 1))
     -- *A with most 0: rule 5, claim 0.
-    ∷ case (pis 3 nodesA) (tableBytes 2 2 1 1 0) (rule 5 (0 ∷ []))
+    ∷ case (pis 3 nodesA) (tableBytesA 2 2 1 1 0) (rule 5 (0 ∷ []))
     -- *A, bound 0: rule 2, balance 0.
-    ∷ case (pis 3 nodesA) (tableBytes 2 2 0 1 1) (rule 2 (0 ∷ []))
+    ∷ case (pis 3 nodesA) (tableBytesA 2 2 0 1 1) (rule 2 (0 ∷ []))
     -- *A, row 2 empty: rule 3 at 5, 3, 1.
-    ∷ case (pis 3 nodesA) (tableBytes 2 0 1 1 1) (rule 3 (5 ∷ 3 ∷ 1 ∷ []))
+    ∷ case (pis 3 nodesA) (tableBytesA 2 0 1 1 1) (rule 3 (5 ∷ 3 ∷ 1 ∷ []))
     -- *A, row 1 empty: rule 1 at 1.
-    ∷ case (pis 3 nodesA) (tableBytes 0 2 1 1 1) (rule 1 (1 ∷ []))
+    ∷ case (pis 3 nodesA) (tableBytesA 0 2 1 1 1) (rule 1 (1 ∷ []))
     -- *A, w6 = 2: rule 4 at 5, 3, 0.
-    ∷ case (pis 3 nodesA) (tableBytes 2 2 1 2 1) (rule 4 (5 ∷ 3 ∷ 0 ∷ []))
+    ∷ case (pis 3 nodesA) (tableBytesA 2 2 1 2 1) (rule 4 (5 ∷ 3 ∷ 0 ∷ []))
     -- *B, w2 = w5 = 1, bound 1: accepted. M is 7, so the weights are padded.
     ∷ case (pis 1 nodesB) (pic (sumOf 1 nodesB) (row 1 ∷ []) 1 (0 ∷ 0 ∷ 1 ∷ 0 ∷ 0 ∷ 1 ∷ 0 ∷ 0 ∷ []) []) (held (sizes 7 1 1 0))
     -- *B, only w5 = 1, bound 1: rule 4 at 4, 2, 0.

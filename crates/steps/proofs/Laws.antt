@@ -46,7 +46,7 @@ use Rattle.ready.proofs.Attempts.{attempt-made}
 use Rattle.lent.specs.declared.Counts.{Counts}
 use Rattle.lent.specs.Lent.{lentOf}
 use Rattle.steps.specs.declared.Meeting.{Meeting}
-use Rattle.steps.specs.declared.NewMarker.{NewMarker}
+use Rattle.steps.specs.declared.NextMarker.{NextMarker}
 use Rattle.steps.specs.declared.Fired.{Fired}
 use Rattle.steps.specs.declared.Fired.the-variants.{Stopped, Made}
 use Rattle.steps.specs.Steps.{Makes, Fires, threadAt, Lies, Met, Meets, Binds, meetingAt, entryAt, markerFor, entriesFor, MarkerTold, Bound, advanced}
@@ -109,7 +109,7 @@ module _ {t : Trailer} {l : List ℕ} {n : Counts} {m : Meeting} (x : Met t l n 
   w = 2 + t .names
 
   -- an in keeps its own
-  pub in-marker : isResource (nodeOf (m .p)) ≡ false → (y : NewMarker) → y .number ≡ getD l (m .receiver * w + 1) 0 → y .markers ≡ n .markers
+  pub in-marker : isResource (nodeOf (m .p)) ≡ false → (y : NextMarker) → y .number ≡ getD l (m .receiver * w + 1) 0 → y .markers ≡ n .markers
       → MarkerTold t l es m y
   unfolding markerOf listAfter
   in-marker e y number markers =
@@ -123,7 +123,7 @@ module _ {t : Trailer} {l : List ℕ} {n : Counts} {m : Meeting} (x : Met t l n 
       }
 
   -- a resource has one of its own
-  pub own-marker : isResource (nodeOf (m .p)) ≡ true → (y : NewMarker) → entryOf (y .entry) ≡ entryAt l (m .receiver * w) (m .sender * w)
+  pub own-marker : isResource (nodeOf (m .p)) ≡ true → (y : NextMarker) → entryOf (y .entry) ≡ entryAt l (m .receiver * w) (m .sender * w)
       → y .number ≡ position (entryOf (y .entry)) es + 1 → y .markers ≡ max (position (entryOf (y .entry)) es + 1) (n .markers) → MarkerTold t l es m y
   unfolding markerOf listAfter extend words
   own-marker e y entry number markers =
@@ -384,7 +384,7 @@ module _ (a : Array) (l ml : List ℕ) (n : Counts) (c : Config ℕ ℕ) (es : L
         rw (few, e) (λ i. leaves record { threads = sym el i; threadCount = sym ek i; markers = sym em i; markerCount = sym ej i })
 
 -- the entries after the step in their list: as they were, or with one more
-module _ {t : Trailer} {l : List ℕ} (ml : List ℕ) (n : Counts) {m : Meeting} {x : NewMarker}
+module _ {t : Trailer} {l : List ℕ} (ml : List ℕ) (n : Counts) {m : Meeting} {x : NextMarker}
     (fits : n .markers ≤ markerRoom ml) (y : MarkerTold t l (entriesIn (n .markers) ml) m x) where
   abbrev old : List Entry
   old = entriesIn (n .markers) ml

@@ -18,7 +18,7 @@ use Rattle.threads.specs.Threads.{remains}
 use Rattle.lent.specs.declared.Counts.{Counts}
 use Rattle.lent.specs.Lent.{lentOf}
 use Rattle.steps.specs.declared.Meeting.{Meeting}
-use Rattle.steps.specs.declared.NewMarker.{NewMarker}
+use Rattle.steps.specs.declared.NextMarker.{NextMarker}
 use Rattle.steps.specs.declared.Fired.{Fired}
 use Rattle.steps.specs.declared.Fired.the-variants.{Stopped, Made}
 
@@ -86,7 +86,7 @@ abbrev pub entriesFor : Trailer → List ℕ → List Entry → Meeting → List
 entriesFor t l es m = listAfter es (sortOf (m .p)) (threadAt t l (m .receiver)) (threadAt t l (m .sender))
 
 -- a marker tells both
-pub record MarkerTold (t : Trailer) (l : List ℕ) (es : List Entry) (m : Meeting) (x : NewMarker) : Type 0 where
+pub record MarkerTold (t : Trailer) (l : List ℕ) (es : List Entry) (m : Meeting) (x : NextMarker) : Type 0 where
   pub number : x .number ≡ markerFor t l es m
   pub small : x .number < 65536
   pub markers : x .markers ≡ length (entriesFor t l es m)

@@ -35,7 +35,7 @@ struct Meeting {
 }
 
 // The marker of the receiver's continuation: its number, how many markers are listed with it, and its entry, if it is to be added.
-struct NewMarker {
+struct NextMarker {
     number: u32,
     markers: usize,
     entry: Entry,
@@ -69,7 +69,13 @@ fn entry_of(threads: &[u32], at: usize, from: usize) -> Entry
 }
 
 // The marker that the receiver's continuation runs under: an in's as it is, a resource's own, listed or to be added.
-fn marker_for(t: Trailer, threads: &[u32], markers: &[u16], counts: Counts, m: Meeting) -> NewMarker
+fn marker_for(
+    t: Trailer,
+    threads: &[u32],
+    markers: &[u16],
+    counts: Counts,
+    m: Meeting,
+) -> NextMarker
     requires { ⌜ Met t (now threads) counts m × (4 * counts .markers ≤ length (now markers)) ⌝ }
     ensures { λ x. ⌜ MarkerTold t (now (threads .entry)) (entriesIn (counts .markers) (now (markers .entry))) m x ⌝ }
 {
@@ -78,14 +84,14 @@ fn marker_for(t: Trailer, threads: &[u32], markers: &[u16], counts: Counts, m: M
     let listed = counts.markers;
     let entry = entry_of(threads, at, m.sender * width);
     if !records::is_resource(m.p) {
-        return NewMarker {
+        return NextMarker {
             number: threads[at + 1],
             markers: listed,
             entry,
         };
     }
     let k = markers::find_entry(markers, listed, entry);
-    NewMarker {
+    NextMarker {
         number: (k + 1) as u32,
         markers: at_least(k + 1, listed),
         entry,

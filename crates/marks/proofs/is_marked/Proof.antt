@@ -1,4 +1,4 @@
--- What it computes is the definition, and a name below 256 has its bit in one of four words.
+-- What it computes is the definition, at the word that `index_of` says.
 use borrow.Author.Needs.{needs}
 use Rattle.marks.specs.Marks.{marked}
 use Rattle.marks.proofs.is_marked.Statement.{statement}

@@ -14,10 +14,10 @@ use Rattle.scopes.proofs.fill_scopes.Statement.{statement}
 use Rattle.scopes.proofs.fill_scopes.Tie as tie
 
 abbrev Inv-loop : tie.InvT-loop
-Inv-loop table₀ file t j₀ reach j = (j ≤ t .nodes) × (length reach ≡ 4096) × Filled (arrayOf file t) reach j
+Inv-loop reach₀ file t j₀ reach j = (j ≤ t .nodes) × (length reach ≡ 4096) × Filled (arrayOf file t) reach j
 
 abbrev μ-loop : tie.MeasureT-loop
-μ-loop table₀ file t j₀ reach j = t .nodes - j
+μ-loop reach₀ file t j₀ reach j = t .nodes - j
 
 -- stations
 abbrev at-start : tie.After-node-at Inv-loop μ-loop → tie.Start Inv-loop μ-loop

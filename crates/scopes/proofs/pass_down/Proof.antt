@@ -14,10 +14,10 @@ use Rattle.scopes.proofs.pass_down.Statement.{statement}
 use Rattle.scopes.proofs.pass_down.Tie as tie
 
 abbrev Inv-loop : tie.InvT-loop
-Inv-loop table₀ from to bound w₀ reach w = (w ≤ 4) × (length reach ≡ length table₀) × (reach ≡ passed table₀ from to bound w)
+Inv-loop reach₀ from to bound w₀ reach w = (w ≤ 4) × (length reach ≡ length reach₀) × (reach ≡ passed reach₀ from to bound w)
 
 abbrev μ-loop : tie.MeasureT-loop
-μ-loop table₀ from to bound w₀ reach w = 4 - w
+μ-loop reach₀ from to bound w₀ reach w = 4 - w
 
 -- stations
 abbrev at-start : tie.After-set-word-arg Inv-loop μ-loop → tie.Start Inv-loop μ-loop

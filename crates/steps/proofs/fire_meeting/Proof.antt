@@ -29,8 +29,8 @@ lists c = c .before .before .before .before
 abbrev begun : tie.After-slice-known3 → tie.Start
 begun c = c .before .before .before .before .before .before
 
-abbrev marked : tie.After-bind-both → tie.After-marker-for
-marked c = c .before .before .before .before
+abbrev numbered : tie.After-bind-both → tie.After-marker-for
+numbered c = c .before .before .before .before
 
 abbrev bound : tie.After-count-after → tie.After-bind-both
 bound c = c .before .before .before .before .before .before .before .before
@@ -61,7 +61,7 @@ entries-left c = let x = start c .args in entriesFor (x .t) (now (x .threads)) (
 
 -- the marker was found, seen from the tests
 abbrev marker : tie.After-threads-fit → tie.After-marker-for
-marker c = marked (bound (counted c))
+marker c = numbered (bound (counted c))
 
 total-is : (c : tie.After-threads-fit) → counted c .count-after .result ≡ min 257 (length (threads-left (marker c)))
 total-is c = counted c .count-after .ensures .2 ∙ ap (λ (k : ℕ). min 257 (length (after (marker c) k))) (marker c .marker-for .ensures .number)
@@ -87,7 +87,7 @@ bind-both-requires c κs =
     (L.binds (u .pre .0 .1) (u .pre .0 .0 .read), (u .pre .1 .1, u .pre .1 .2))
 
 threads-fit-requires : tie.Need-threads-fit-requires
-threads-fit-requires c κs = begun (lists (marked (bound (c .before .before .before .before .before)))) .pre .0 .0 .read .formed .fewNames
+threads-fit-requires c κs = begun (lists (numbered (bound (c .before .before .before .before .before)))) .pre .0 .0 .read .formed .fewNames
 
 returns : tie.Need-returns
 returns c =
