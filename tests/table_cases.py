@@ -2,7 +2,7 @@
 """Writes crates/cases/{data,args,stdout}, crates/judge/{data,stdout} and crates/sizes/{data,args,stdout}: pairs of array and table files, what
 the checker must say of them, and what the table reader must.
 
-Each answer is written here by hand from document 01: a case is an array, a table's name, the table and the words of the verdict, or of the
+Each answer is written here by hand from documents 01 and 02: a case is an array, a table's name, the table and the words of the verdict, or of the
 reader's answer. Run it at the top of the repository after a change; the gate compares what the programs print.
 """
 import os
@@ -25,8 +25,9 @@ def balance(bound, weights, nodes, pad=0):
     return struct.pack("<I", bound) + struct.pack(f"<{len(words)}H", *words)
 
 
-def claim(agent, most, number=0, last=0):
-    return struct.pack("<HHHH", agent, most, number, last)
+def claim(agent, most, number=0, of=0):
+    """Of balance `number` and set `of`; set 0 stands alone."""
+    return struct.pack("<HHHH", agent, most, number, of)
 
 
 def pic(array, rows, balances=(), claims=(), starts=None, counts=None, named=None, total=None, letters=b"PIC1"):
@@ -71,6 +72,11 @@ FILES["many"] = pis([rec(NEW, i + 1, name=i) for i in range(253)]
                     + [rec(PAR, 254, 255), rec(OUT, 256, name=0, args=[70, 135, 252]), rec(IN, 257, name=0, args=[253, 254, 255]), rec(STOP), rec(STOP)], 256)
 many = FILES["many"]
 own = [row(o) for o in range(253)]
+
+
+def of_sets(*claims):
+    """A's table with other claims, each an agent, a most and a set."""
+    return pic(a, rows, [bal], [claim(agent, most, 0, of) for agent, most, of in claims])
 
 
 def second(w6):
@@ -123,6 +129,29 @@ CASES = [
     ("either", "either-live", pic(either, [row(0)], [balance(9, {5: 1}, 7)]), "rule 4 4 2 0"),
     ("either", "either-second-balance", pic(either, [row(0)], [balance(9, {5: 1}, 7), balance(1, {2: 1, 4: 1}, 7)]), "held 7 1 2 0"),
     ("either", "either-second-fits", pic(either, [row(0)], [balance(9, {5: 1}, 7), balance(2, {2: 1, 4: 1}, 7)]), "rule 4 4 2 0"),
+    # sets: the least weight x (most + 1) against bound 1. Agents 5 and 6 weigh 1, agent 3 nothing.
+    ("A", "A-set", of_sets((5, 1, 1), (6, 1, 1)), "held 8 3 1 2"),
+    ("A", "A-set-most-0", of_sets((5, 0, 1), (6, 0, 1)), "rule 5 0"),
+    ("A", "A-set-weightless", of_sets((6, 65535, 0), (6, 65535, 4), (3, 65535, 4)), "rule 5 1"),
+    ("A", "A-set-named-twice", of_sets((6, 1, 1), (6, 1, 1)), "held 8 3 1 2"),
+    # claims of set 0 stand alone: of one agent with different mosts, and beside a set
+    ("A", "A-set-0", of_sets((6, 1, 0), (6, 2, 0), (5, 1, 0)), "held 8 3 1 3"),
+    ("A", "A-set-0-reached", of_sets((6, 2, 0), (6, 0, 0)), "rule 5 1"),
+    # the set's first claim is named, wherever its claims lie, and of two sets the lower first claim
+    ("A", "A-set-apart", of_sets((5, 1, 1), (6, 1, 2), (6, 1, 1)), "held 8 3 1 3"),
+    ("A", "A-set-apart-weightless", of_sets((5, 1, 5), (6, 1, 7), (3, 1, 7), (6, 1, 5)), "rule 5 1"),
+    ("A", "A-sets-nested", of_sets((6, 1, 5), (6, 1, 7), (3, 1, 7), (3, 1, 5)), "rule 5 0"),
+    # a set's number is all of its 16 bits
+    ("A", "A-sets-1-257", of_sets((5, 1, 1), (6, 2, 257)), "held 8 3 1 2"),
+    ("A", "A-sets-256-512", of_sets((5, 1, 256), (6, 2, 512)), "held 8 3 1 2"),
+    ("A", "A-set-256", of_sets((6, 1, 256), (6, 1, 512), (3, 1, 256)), "rule 5 0"),
+    # all claims of one set, and each of its own
+    ("A", "A-set-of-256", of_sets(*[(6, 1, 9)] * 256), "held 8 3 1 256"),
+    ("A", "A-256-sets", of_sets(*[(6, 1, 257 * i) for i in range(256)]), "held 8 3 1 256"),
+    ("A", "A-256-sets-last", of_sets(*[(6, 1, 256 - i) for i in range(255)], (6, 0, 300)), "rule 5 255"),
+    # in the set's balance, bound 70,000, the least weight is 299 and the greatest 300: 299 x 234 = 69,966, 299 x 235 = 70,265
+    ("A", "A-set-on-second-reached", pic(a, rows, [bal, balance(70000, {5: 300, 6: 299}, 8)], [claim(i, 233, 1, 3) for i in (5, 6)]), "rule 5 0"),
+    ("A", "A-set-on-second", pic(a, rows, [bal, balance(70000, {5: 300, 6: 299}, 8)], [claim(i, 234, 1, 3) for i in (5, 6)]), "held 8 3 2 2"),
     # a claim is weighed in its own balance: 300 x 234 = 70,200 and 299 x 234 = 69,966; in balance 0 it is 1 x 234 against 1
     ("A", "A-claim-on-second", second(300), "held 8 3 2 3"),
     ("A", "A-claim-on-second-reached", second(299), "rule 5 1"),
@@ -175,8 +204,20 @@ CASES = [
     ("A", "A-claim-past-M", pic(a, rows, [bal], [claim(8, 1)]), "refused 21 0"),
     ("A", "A-claim-of-65535", pic(a, rows, [bal], [claim(65535, 1)]), "refused 21 0"),
     ("A", "A-claim-balance-K", pic(a, rows, [bal], [claim(6, 1, 1)]), "refused 21 0"),
-    ("A", "A-claim-last", pic(a, rows, [bal], [claim(6, 1), claim(6, 1), claim(6, 1, 0, 1)]), "refused 21 2"),
     ("A", "A-claim-no-balance", pic(a, rows, [], [claim(6, 1)]), "refused 21 0"),
+    # a last number other than 0 is a set's: a set of one claim
+    ("A", "A-claim-last", pic(a, rows, [bal], [claim(6, 1), claim(6, 1), claim(6, 1, 0, 1)]), "held 8 3 1 3"),
+    # 30: claims of a set that differ, in most and in balance; the later claim is named, the lowest such, whatever lies between
+    ("A", "A-set-mosts", of_sets((5, 1, 1), (6, 2, 1)), "refused 30 1"),
+    ("A", "A-set-mosts-by-256", of_sets((5, 256, 1), (6, 512, 1)), "refused 30 1"),
+    ("A", "A-set-balances", pic(a, rows, [bal, bal], [claim(5, 1, 0, 1), claim(6, 1, 1, 1)]), "refused 30 1"),
+    ("A", "A-set-mosts-apart", of_sets((5, 1, 7), (6, 1, 0), (6, 1, 8), (6, 2, 7)), "refused 30 3"),
+    ("A", "A-set-mosts-nested", of_sets((5, 1, 7), (5, 1, 8), (6, 2, 8), (6, 2, 7)), "refused 30 2"),
+    ("A", "A-set-65535", of_sets((5, 1, 65535), (6, 2, 65535)), "refused 30 1"),
+    ("A", "A-set-255-agree", of_sets(*[(6, 1, 9)] * 255, (6, 2, 9)), "refused 30 255"),
+    # 21 over all claims before 30 over any, and 30 before the rules
+    ("A", "A-21-first", of_sets((5, 1, 1), (6, 2, 1), (2, 1, 0)), "refused 21 2"),
+    ("A", "A-30-first", of_sets((3, 0, 0), (5, 1, 1), (6, 2, 1)), "refused 30 2"),
     # 19 before 20 before 21
     ("A", "A-19-first", pic(a, [row(0), row(1), row(2)], [balance(1, {2: 1}, 8)], [claim(2, 1)]), "refused 19 2"),
     ("A", "A-20-first", pic(a, rows, [balance(1, {2: 1}, 8)], [claim(2, 1)]), "refused 20 0"),
@@ -208,6 +249,10 @@ SIZES = [
     ("A", "A-balance-3", pic(a, rows, [bal] * 3 + [balance(1, {2: 1}, 8)]), "refused 20 3"),
     ("B", "B-padding", pic(b, [row(0)], [balance(1, {}, 7), balance(1, {}, 7, pad=1)]), "refused 20 1"),
     ("A", "A-claim-4", pic(a, rows, [bal], [claim(6, 1)] * 4 + [claim(6, 1, 1)]), "refused 21 4"),
+    # sets: one that is not met is read; 30 at a place, after 21
+    ("A", "A-set-most-0", of_sets((5, 0, 1), (6, 0, 1)), "read 8 3 1 2"),
+    ("A", "A-set-mosts", of_sets(*[(6, 1, 0)] * 3, (6, 1, 5), (6, 0, 5)), "refused 30 4"),
+    ("A", "A-21-first", of_sets((5, 1, 1), (6, 2, 1), (2, 1, 0)), "refused 21 2"),
 ]
 
 

@@ -1,12 +1,12 @@
 //! The calculus without limits: markers are trees, lists may grow.
 
-use std::collections::{BTreeMap, HashSet};
+use std::collections::{BTreeMap, BTreeSet, HashSet};
 use std::fmt;
 use std::rc::Rc;
 
 use crate::array::{Array, Kind};
 use crate::bytes::bit;
-use crate::table::Table;
+use crate::table::{Claim, Table};
 
 /// A marker: empty, or (resource, out, marker, marker).
 #[derive(Clone, Default)]
@@ -229,6 +229,12 @@ pub fn reached(array: &Array, first: &[u8; 128], attempts: &[Attempt]) -> Config
     configuration
 }
 
+/// The agents of a claim's set, each once; for set 0 the claim's own agent.
+fn agents(table: &Table, claim: &Claim) -> BTreeSet<usize> {
+    let set = table.claims().iter().filter(|other| other.same_set(claim));
+    set.chain([claim]).map(|claim| claim.agent).collect()
+}
+
 /// Whether rows, balances and claims of the table hold of a configuration.
 pub fn safe(array: &Array, table: &Table, configuration: &Configuration) -> bool {
     let threads = &configuration.threads;
@@ -250,7 +256,8 @@ pub fn safe(array: &Array, table: &Table, configuration: &Configuration) -> bool
         }
     }
     let claimed = table.claims().iter().all(|claim| {
-        let count = counts.get(claim.agent).copied().unwrap_or(0);
+        let set = agents(table, claim);
+        let count: usize = set.iter().map(|agent| counts.get(*agent).copied().unwrap_or(0)).sum();
         count <= usize::from(claim.most)
     });
     flows && balanced && claimed

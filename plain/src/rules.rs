@@ -1,7 +1,7 @@
 //! Loads, live pairs, the five rules and the verdict.
 
 use crate::array::{read_array, Array, Kind};
-use crate::table::{read_table_for, Balance, Table};
+use crate::table::{read_table_for, Balance, Claim, Table};
 use crate::Refusal;
 
 /// What the checker says of an array and a table.
@@ -135,16 +135,33 @@ fn rule_4(array: &Array, table: &Table, loads: &[Vec<u64>]) -> Option<Vec<usize>
     place
 }
 
-/// The agent's weight times (most + 1) exceeds the bound.
+/// Every set is met. The place is the set's first claim.
 fn rule_5(table: &Table) -> Option<Vec<usize>> {
-    let claim = table.claims().iter().position(|claim| {
-        let holds = table
-            .balances()
-            .get(claim.balance)
-            .is_some_and(|balance| balance.weight(claim.agent) * (u64::from(claim.most) + 1) > balance.bound());
-        !holds
-    })?;
-    Some(vec![claim])
+    let set = sets(table.claims()).into_iter().find(|set| !met(table, set))?;
+    Some(vec![set[0]])
+}
+
+/// The sets in the order of their first claims, each as the numbers of its
+/// claims in rising order. A claim of set 0 is alone in its list.
+fn sets(claims: &[Claim]) -> Vec<Vec<usize>> {
+    let mut sets: Vec<Vec<usize>> = Vec::new();
+    for (i, claim) in claims.iter().enumerate() {
+        match sets.iter_mut().find(|set| claims[set[0]].same_set(claim)) {
+            Some(set) => set.push(i),
+            None => sets.push(vec![i]),
+        }
+    }
+    sets
+}
+
+/// The least weight of a set's agents times (most + 1) exceeds the bound.
+fn met(table: &Table, set: &[usize]) -> bool {
+    let claims = table.claims();
+    let first = claims[set[0]];
+    table.balances().get(first.balance).is_some_and(|balance| {
+        let weights = set.iter().map(|i| balance.weight(claims[*i].agent));
+        weights.min().unwrap_or(0) * (u64::from(first.most) + 1) > balance.bound()
+    })
 }
 
 /// The in and resource nodes, and the out nodes, in rising order.

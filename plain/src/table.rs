@@ -1,4 +1,4 @@
-//! Reader of tables: refusals 13 to 21.
+//! Reader of tables: refusals 13 to 21 and 30.
 
 use crate::array::{read_array, Array};
 use crate::bytes::{number16, number32, word_sum, Names};
@@ -33,6 +33,15 @@ pub struct Claim {
     pub agent: usize,
     pub most: u16,
     pub balance: usize,
+    /// The set number, 0 for a claim that stands alone.
+    pub set: u16,
+}
+
+impl Claim {
+    /// Whether both claims belong to one set. Set 0 is none.
+    pub fn same_set(&self, other: &Claim) -> bool {
+        self.set != 0 && self.set == other.set
+    }
 }
 
 /// A table that was read for an array.
@@ -110,13 +119,19 @@ pub fn read_table_for(array: &Array, file: &[u8]) -> Result<Table, Refusal> {
     };
     refuse_at(20, (0..balance_count).filter(wrong_balance))?;
 
-    let parts: Vec<&[u8]> = file[claims_start..trailer_start].chunks_exact(CLAIM).collect();
-    let claims: Vec<Claim> = parts.iter().map(|part| read_claim(part)).collect();
+    let claims: Vec<Claim> = file[claims_start..trailer_start].chunks_exact(CLAIM).map(read_claim).collect();
     let wrong_claim = |i: &usize| {
         let claim = claims[*i];
-        array.agent(claim.agent).is_none() || claim.balance >= balance_count || number16(parts[*i], 6) != 0
+        array.agent(claim.agent).is_none() || claim.balance >= balance_count
     };
     refuse_at(21, (0..claim_count).filter(wrong_claim))?;
+
+    let differs = |later: &usize| {
+        let claim = claims[*later];
+        let mut earlier = claims[..*later].iter().filter(|earlier| earlier.same_set(&claim));
+        earlier.any(|earlier| earlier.most != claim.most || earlier.balance != claim.balance)
+    };
+    refuse_at(30, (0..claim_count).filter(differs))?;
 
     Ok(Table { rows, balances, claims })
 }
@@ -126,5 +141,10 @@ fn read_balance(part: &[u8], nodes: usize) -> Balance {
 }
 
 fn read_claim(part: &[u8]) -> Claim {
-    Claim { agent: usize::from(number16(part, 0)), most: number16(part, 2), balance: usize::from(number16(part, 4)) }
+    Claim {
+        agent: usize::from(number16(part, 0)),
+        most: number16(part, 2),
+        balance: usize::from(number16(part, 4)),
+        set: number16(part, 6),
+    }
 }

@@ -32,15 +32,16 @@ use Rattle.handover.specs.Refusals.{done, StartNumber, WalkNumber}
 
 -- Whoever unfolds this unfolds every definition behind the answer.
 computed : Unit {0}
-unfolding F.test F.andThen F.under F.first F.every F.any F.sum L.one L.all L.has L.times
+unfolding F.test F.andThen F.under F.first F.every F.any F.sum F.least L.one L.all L.has L.times
     N.u16At N.u32At N.wordSum
     T.nodeAt T.grow T.tree T.procAt T.asAgent T.agentAt T.receives T.load T.opens T.isAgent T.isNew
     W.children W.params W.binds W.sent W.uses W.childFits W.refusal8 W.fieldsTo W.refusal9 W.refusal10 W.binders W.refusal11 W.reaches W.inReach W.refusal12
-    R.sortOf R.nodeOf D.refusal6 D.refusal7 Y.partsFit Y.refusal19 Y.refusal20 Y.refusal21
+    R.sortOf R.nodeOf D.refusal6 D.refusal7 Y.partsFit Y.refusal19 Y.refusal20 Y.refusal21 Y.setFits Y.refusal30
     L.put T.freeBelow T.isFree S.choicesOf S.stays S.bind S.keep S.unless S.onAgents S.cutFrom S.unfoldProc S.markerOf S.receiverLeaves S.senderLeaves
     S.stepped S.attempt S.start I.sameEntry I.position I.extend I.listAfter I.markersAfter
     M.words M.threadIn M.threadsIn M.wordsOf M.entryIn M.entriesIn M.numbersOf M.isResource M.isOut M.wordFormed M.threadFormed M.entryFormed M.unlike M.formed
     M.store M.fitted M.startIn M.onAnswer M.stepIn M.isNext M.firstReady M.onPair M.onStep M.walkIn
+    U.together U.leastWeight
     U.within U.shareBit U.fitBoth U.live U.taken U.onLive U.pairs U.check1 U.check2 U.arguments3 U.check3 U.balances4 U.check4 U.check5 U.verdict
 computed = tt
 
@@ -93,7 +94,12 @@ past n m h k = absurd (omega (arith, h, k))
 pub unlisted : Unlisted
 unlisted = record {
   array = (λ h. past 0 1 (omega arith) (h .0), λ h. past 12 13 (omega arith) (h .1));
-  table = (λ h. past 0 1 (omega arith) (h .0), λ h. past 21 22 (omega arith) (h .1));
+  table = (
+    λ h. ⊎-elim (λ a. past 0 1 (omega arith) (a .0)) (λ b. absurd (omega (arith, b))) h,
+    λ h. ⊎-elim (λ a. past 21 22 (omega arith) (a .1)) (λ b. absurd (omega (arith, b))) h,
+    λ h. ⊎-elim (λ a. past 21 29 (omega arith) (a .1)) (λ b. absurd (omega (arith, b))) h,
+    λ h. ⊎-elim (λ a. past 21 31 (omega arith) (a .1)) (λ b. absurd (omega (arith, b))) h,
+  );
   start = (
     start-not 13 (omega arith) (omega arith) (omega arith),
     start-not 23 (omega arith) (omega arith) (omega arith),

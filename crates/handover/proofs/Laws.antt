@@ -1,20 +1,20 @@
 -- From the parts to the whole promise: what the readers and the rules found is the definition's answer; with it come demand 2 and,
 -- where it is held, demand 3.
-use Prim.Native.Nat.{ℕ, _+_}
+use Prim.Native.Nat.{ℕ, _<_}
 use mathlib.Core.Path.{_≡_, refl, sym, ap, _∙_, subst}
 use mathlib.Core.Logic.{_↔_}
-use mathlib.Core.Bool.{_&&_, true, false, true≢false}
-use mathlib.Core.List.{List}
-use lib.Dec.{eqb, ltb}
-use borrow.Author.Tests.{ltb-true}
+use mathlib.Core.Bool.{true, false, true≢false}
+use mathlib.Core.List.{List, [], _∷_}
 use Rattle.laws.specs.Search.{Found, clear, hit}
-use Rattle.laws.proofs.Search.{and-split, clear-hit, test-clear, first-clear, andThen-join, clear-andThen, hit-andThen}
-use Rattle.wire.specs.Numbers.{u16At}
+use Rattle.laws.proofs.Search.{clear-hit, andThen-join, clear-andThen, hit-andThen}
 use Rattle.model.specs.Tree.{nodeAt, isAgent}
 use Rattle.model.specs.Formed as F
 use Rattle.model.specs.Rules as M
-use Rattle.model.specs.Rules.{ClaimsFit, at, verdict}
-use Rattle.model.proofs.Verdict.{held-rules, first-broken}
+use Rattle.model.specs.Calculus.{calculus, run}
+use Rattle.model.specs.Rules.{inSet, SetsAgree, FirstBroken, at, verdict}
+use Rattle.model.proofs.Tree.{agent-inside}
+use Rattle.model.proofs.Verdict.{held-rules, first-broken, first5}
+use Rattle.model.proofs.Sets.{set-claim, first-of-set, count-sums}
 use Rattle.model.proofs.Safety.{demand3}
 use Rattle.records.specs.declared.Refusal.{Refusal}
 use Rattle.records.specs.declared.Trailer.{Trailer}
@@ -24,7 +24,8 @@ use Rattle.arrays.specs.declared.ArrayAnswer.the-variants as A
 use Rattle.arrays.specs.File.{trailerOf, arrayRefusal, trailerAnswer, readArray, IsRead}
 use Rattle.arrays.proofs.Laws.{read-passes, read-refuses, read-is}
 use Rattle.layout.specs.declared.Sizes.{Sizes}
-use Rattle.layout.specs.Table.{claimAt, sizesOf, tableOf, refusal21, IsTable}
+use Rattle.layout.specs.Table.{sizesOf, tableOf, IsTable}
+use Rattle.claims.proofs.Laws.{claims-named, sets-agree}
 use Rattle.tables.specs.declared.TableAnswer.{TableAnswer}
 use Rattle.tables.specs.Read as T
 use Rattle.tables.specs.Read.{tableRefusal, filesRefusal, readTable}
@@ -34,7 +35,7 @@ use Rattle.rules.specs.declared.Ruling.the-variants as R
 use Rattle.rules.specs.Ruling.{ruled}
 use Rattle.handover.specs.declared.Verdict.{Verdict}
 use Rattle.handover.specs.declared.Verdict.the-variants.{Held, Refused}
-use Rattle.handover.specs.Front.{Outcome, held, rule, says, IsHeld, arrayIn, sizesIn, tableIn, afterRules, judged, Judges}
+use Rattle.handover.specs.Front.{Outcome, held, rule, says, IsHeld, arrayIn, sizesIn, tableIn, afterRules, judged, Demand3, Judges}
 use Rattle.handover.specs.Front.{saysArray, saysTable, arrayRead, tableRead, ArrayPromise, TablePromise}
 use Rattle.handover.specs.Bodies.{verdictOf}
 use Rattle.handover.specs.Refusals.{Reply, done, refused, unlessRefused, ArrayNumber, TableNumber}
@@ -74,15 +75,6 @@ judged-listed : (f s : List ℕ) (n p : ℕ) → judged f s ≡ refused n p → 
 unfolding judged
 judged-listed f s n p e = reply-listed TableNumber (filesRefusal f s) _ (files-small f s) n p e
 
--- what refusal 21 leaves of the claims: each names a balance of the table
-claims-fit : (f : List ℕ) (t : Trailer) (s : List ℕ) (z : Sizes) → IsTable f t s z → ClaimsFit (tableOf s z)
-unfolding refusal21
-claims-fit f t s z table c h =
-    let at = claimAt z c in
-    let fits = test-clear _ _ (first-clear (z .claims) _ (table .claims) c h) in
-    let named = and-split (isAgent (nodeAt (arrayOf f t) (u16At s at)) && ltb (u16At s (at + 4)) (z .balances)) (eqb (u16At s (at + 6)) 0) fits .0 in
-    ltb-true _ _ (and-split (isAgent (nodeAt (arrayOf f t) (u16At s at))) (ltb (u16At s (at + 4)) (z .balances)) named .1)
-
 -- the broken rule that an answer names, if any
 abbrev broken : Reply Outcome → M.Verdict
 broken (done (held z)) = clear
@@ -98,7 +90,9 @@ module _ (f s : List ℕ) where
         answers = a;
         exactly = λ none. clear-hit _ (sym none ∙ e);
         breaks = λ n figures h. clear-hit _ (ap broken h);
+        names = λ c h. clear-hit _ (ap broken h);
         holds = λ h. absurd h;
+        bounds = λ h. absurd h;
         listed = λ n p q. judged-listed f s n p (sym a ∙ q);
       }
 
@@ -131,17 +125,37 @@ module _ (f s : List ℕ) where
     held-ruled (R.Rule4 p q k) = (λ h. absurd h, λ e. clear-hit _ (sym e))
     held-ruled (R.Rule5 c) = (λ h. absurd h, λ e. clear-hit _ (sym e))
 
+    -- what refusals 21 and 30 leave of the claims
+    named : (c : ℕ) → c < tableIn f s .claims
+        → (isAgent (nodeAt (arrayIn f) (tableIn f s .claim c .agent)) ≡ true) × (tableIn f s .claim c .balance < tableIn f s .balances)
+    named = claims-named (arrayIn f) (tableIn f s) (table .claims)
+
+    agree : SetsAgree (tableIn f s)
+    agree = sets-agree (tableIn f s) (table .sets)
+
+    -- the agents of a set are nodes
+    inside : (q i : ℕ) → inSet (tableIn f s) q i ≡ true → i < arrayIn f .size
+    inside q i e =
+        let c = set-claim (tableIn f s) q i e in
+        subst (λ x. x < arrayIn f .size) (sym (c .3)) (agent-inside (arrayIn f) _ (named (c .0) (c .1) .0))
+
     pub ruled-judges : (x : Ruling) → ruled x ≡ verdict (arrayIn f) (tableIn f s) → Judges f s (verdictOf x (sizesIn f s))
     unfolding judged
     ruled-judges x e =
         let both = held-rules (arrayIn f) (tableIn f s) in
         let none : IsHeld (says (verdictOf x (sizesIn f s))) → verdict (arrayIn f) (tableIn f s) ≡ clear = λ h. sym e ∙ held-ruled x .0 h in
         let a : says (verdictOf x (sizesIn f s)) ≡ judged f s = sym (rw (clear′, ← e) (ruled-says x)) in
+        let breaks : (n : ℕ) (l : List ℕ) → says (verdictOf x (sizesIn f s)) ≡ done (rule n l) → FirstBroken (arrayIn f) (tableIn f s) (at n l) =
+        λ n figures h. first-broken (arrayIn f) (tableIn f s) (at n figures) (sym e ∙ sym (broken-ruled x) ∙ ap broken h) in
+        let safe : IsHeld (says (verdictOf x (sizesIn f s))) → Demand3 f s =
+        λ h. demand3 (arrayIn f) (tableIn f s) (read .formed) (λ c k. named c k .1) (none h) in
         record {
           answers = a;
           exactly = λ u. (λ h. both .0 (none h), λ h. held-ruled x .1 (e ∙ both .1 h));
-          breaks = λ n figures h. first-broken (arrayIn f) (tableIn f s) (at n figures) (sym e ∙ sym (broken-ruled x) ∙ ap broken h);
-          holds = λ h. demand3 (arrayIn f) (tableIn f s) (read .formed) (claims-fit f (trailerOf f) s (sizesIn f s) table) (none h);
+          breaks = breaks;
+          names = λ c h. first-of-set (tableIn f s) agree c (first5 (arrayIn f) (tableIn f s) (c ∷ []) _ (breaks 5 (c ∷ []) h) refl);
+          holds = safe;
+          bounds = λ h ch us q k. rw (count-sums (tableIn f s) q (arrayIn f .size) (inside q) (run calculus (arrayIn f) ch us)) (safe h ch us .claims q k);
           listed = λ n p q. judged-listed f s n p (sym a ∙ q);
         }
 

@@ -22,7 +22,7 @@ use Rattle.fields.specs.Fields.{refusal6, refusal7}
 use Rattle.arrays.specs.declared.ArrayAnswer.the-variants as A
 use Rattle.arrays.specs.File.{trailerOf, arrayRefusal, refusal1, refusal2, refusal3, refusal4, refusal5, from6, readArray, trailerAnswer, IsRead}
 use Rattle.arrays.proofs.Laws.{read-is, counts-fit}
-use Rattle.layout.specs.Table.{sizesOf, refusal13, refusal14, refusal15, refusal16, refusal17, refusal18, refusal19, refusal20, refusal21}
+use Rattle.layout.specs.Table.{sizesOf, tableOf, refusal13, refusal14, refusal15, refusal16, refusal17, refusal18, refusal19, refusal20, refusal21, refusal30}
 use Rattle.tables.specs.Read.{tableRefusal, filesRefusal}
 use Rattle.tables.proofs.Laws as L
 use Rattle.handover.specs.Front.{arrayIn}
@@ -86,27 +86,28 @@ array-small s =
     let c = counts-fit t (test-clear _ _ fits) in
     from6-small s t (c .1) (c .2)
 
--- ---- 13 to 21
+-- ---- 13 to 21 and 30
 
 table-small : (f : List ℕ) (t : Trailer) (s : List ℕ) → t .names ≤ 256 → Small TableNumber (tableRefusal f t s)
-unfolding refusal19 refusal20 refusal21
+unfolding refusal19 refusal20 refusal21 refusal30
 table-small f t s n =
     let z = sizesOf t s in
-    andThen-small TableNumber (refusal13 s) _ (unplaced TableNumber 13 _ (omega arith, omega arith)) λ _.
-    andThen-small TableNumber (refusal14 z) _ (unplaced TableNumber 14 _ (omega arith, omega arith)) λ _.
-    andThen-small TableNumber (refusal15 z) _ (unplaced TableNumber 15 _ (omega arith, omega arith)) λ fits.
-    andThen-small TableNumber (refusal16 s z) _ (unplaced TableNumber 16 _ (omega arith, omega arith)) λ _.
-    andThen-small TableNumber (refusal17 s) _ (unplaced TableNumber 17 _ (omega arith, omega arith)) λ _.
-    andThen-small TableNumber (refusal18 t s) _ (unplaced TableNumber 18 _ (omega arith, omega arith)) λ _.
+    andThen-small TableNumber (refusal13 s) _ (unplaced TableNumber 13 _ (inl (omega arith, omega arith))) λ _.
+    andThen-small TableNumber (refusal14 z) _ (unplaced TableNumber 14 _ (inl (omega arith, omega arith))) λ _.
+    andThen-small TableNumber (refusal15 z) _ (unplaced TableNumber 15 _ (inl (omega arith, omega arith))) λ fits.
+    andThen-small TableNumber (refusal16 s z) _ (unplaced TableNumber 16 _ (inl (omega arith, omega arith))) λ _.
+    andThen-small TableNumber (refusal17 s) _ (unplaced TableNumber 17 _ (inl (omega arith, omega arith))) λ _.
+    andThen-small TableNumber (refusal18 t s) _ (unplaced TableNumber 18 _ (inl (omega arith, omega arith))) λ _.
     let c = L.counts-fit z (test-clear _ _ fits) in
-    andThen-small TableNumber (refusal19 (arrayOf f t) s z) _ (lowest TableNumber 19 _ _ (omega arith, omega arith) (omega (arith, n))) λ _.
-    andThen-small TableNumber (refusal20 (arrayOf f t) s z) _ (lowest TableNumber 20 _ _ (omega arith, omega arith) (omega (arith, c .0))) λ _.
-    lowest TableNumber 21 _ _ (omega arith, omega arith) (omega (arith, c .1))
+    andThen-small TableNumber (refusal19 (arrayOf f t) s z) _ (lowest TableNumber 19 _ _ (inl (omega arith, omega arith)) (omega (arith, n))) λ _.
+    andThen-small TableNumber (refusal20 (arrayOf f t) s z) _ (lowest TableNumber 20 _ _ (inl (omega arith, omega arith)) (omega (arith, c .0))) λ _.
+    andThen-small TableNumber (refusal21 (arrayOf f t) (tableOf s z)) _ (lowest TableNumber 21 _ _ (inl (omega arith, omega arith)) (omega (arith, c .1))) λ _.
+    lowest TableNumber 30 _ _ (inr refl) (omega (arith, c .1))
 
 pub files-small : (f s : List ℕ) → Small TableNumber (filesRefusal f s)
 files-small f s =
     andThen-small TableNumber (arrayRefusal f) _
-    (small-by ArrayNumber TableNumber (λ n h. (h .0, omega (arith, h .1))) (arrayRefusal f) (array-small f))
+    (small-by ArrayNumber TableNumber (λ n h. inl (h .0, omega (arith, h .1))) (arrayRefusal f) (array-small f))
     λ c. table-small f (trailerOf f) s (read-array f c .formed .fewNames)
 
 -- ---- 22 and 23
@@ -183,21 +184,22 @@ start-number a ch m n e = fate (fitted-fate a m (start (words []) a ch) [])
     fate (unlisted q k) = absurd (omega arith)
     fate (stored q k l) = leave-stop _ n (sym q ∙ e)
 
--- ---- every number is at most 29
+-- ---- every number is at most 39
 
-pub table-few : (n : ℕ) → TableNumber n → n ≤ 29
-table-few n h = omega (arith, h .1)
+pub table-few : (n : ℕ) → TableNumber n → n ≤ 39
+table-few n (inl h) = omega (arith, h .1)
+table-few n (inr h) = omega arith
 
-pub start-few : (n : ℕ) → StartNumber n → n ≤ 29
+pub start-few : (n : ℕ) → StartNumber n → n ≤ 39
 start-few n (inl h) = omega (arith, h .1)
 start-few n (inr (inl h)) = omega arith
 start-few n (inr (inr h)) = omega arith
 
-pub step-few : (n : ℕ) → StepNumber n → n ≤ 29
+pub step-few : (n : ℕ) → StepNumber n → n ≤ 39
 step-few n (inl h) = omega (arith, h .1)
-step-few n (inr h) = h .1
+step-few n (inr h) = omega (arith, h .1)
 
-pub walk-few : (n : ℕ) → WalkNumber n → n ≤ 29
+pub walk-few : (n : ℕ) → WalkNumber n → n ≤ 39
 walk-few n (inl h) = omega (arith, h .1)
 walk-few n (inr (inl h)) = omega arith
 walk-few n (inr (inr h)) = omega arith

@@ -72,12 +72,12 @@ sumOf names records = let s = join records ++ (le32 0 ++ (le16 (length records) 
 abbrev pub row : ℕ → List ℕ
 row first = first ∷ replicate 31 0
 
--- a claim on balance k, and on balance 0
-abbrev pub claimIn : ℕ → ℕ → ℕ → List ℕ
-claimIn k agent most = le16 agent ++ (le16 most ++ (le16 k ++ le16 0))
+-- a claim of set n on balance k; one that stands alone on balance 0
+abbrev pub claimBytesIn : ℕ → ℕ → ℕ → ℕ → List ℕ
+claimBytesIn n k agent most = le16 agent ++ (le16 most ++ (le16 k ++ le16 n))
 
 abbrev pub claimBytes : ℕ → ℕ → List ℕ
-claimBytes agent most = claimIn 0 agent most
+claimBytes agent most = claimBytesIn 0 0 agent most
 
 abbrev pub numbers : List ℕ → List ℕ
 numbers [] = []
@@ -116,12 +116,17 @@ abbrev pub tableBytesA : ℕ → ℕ → ℕ → ℕ → ℕ → List ℕ
 tableBytesA row1 row2 bound w6 most =
     pic (sumOf 3 nodesA) (row 1 ∷ row row1 ∷ row row2 ∷ []) bound (0 ∷ 0 ∷ 0 ∷ 0 ∷ 0 ∷ 1 ∷ w6 ∷ 0 ∷ []) (claimBytes 6 most ∷ [])
 
+-- A's table with other claims
+abbrev pub setsOfA : List (List ℕ) → List ℕ
+setsOfA claims = pic (sumOf 3 nodesA) (row 1 ∷ row 2 ∷ row 2 ∷ []) 1 (0 ∷ 0 ∷ 0 ∷ 0 ∷ 0 ∷ 1 ∷ 1 ∷ 0 ∷ []) claims
+
 -- A's table with a second balance, w5 = 300 and w6 = 299, and a claim on it
 abbrev pub twoBalances : List ℕ
 twoBalances =
     let first = balance 1 (0 ∷ 0 ∷ 0 ∷ 0 ∷ 0 ∷ 1 ∷ 1 ∷ 0 ∷ []) in
     let second = balance 70000 (0 ∷ 0 ∷ 0 ∷ 0 ∷ 0 ∷ 300 ∷ 299 ∷ 0 ∷ []) in
-    balanced (sumOf 3 nodesA) (row 1 ∷ row 2 ∷ row 2 ∷ []) (first ∷ second ∷ []) (claimBytes 6 1 ∷ claimIn 1 6 233 ∷ claimBytes 6 1 ∷ claimBytes 6 1 ∷ [])
+    balanced (sumOf 3 nodesA) (row 1 ∷ row 2 ∷ row 2 ∷ []) (first ∷ second ∷ [])
+    (claimBytes 6 1 ∷ claimBytesIn 0 1 6 233 ∷ claimBytes 6 1 ∷ claimBytes 6 1 ∷ [])
 
 -- ---- the rows: array file, table file, and what 01 says
 
@@ -159,6 +164,8 @@ cases =
     ∷ case (pis 1 nodesC) (pic (sumOf 1 nodesC) (row 1 ∷ []) 1 (0 ∷ 0 ∷ 1 ∷ 0 ∷ 1 ∷ 0 ∷ []) []) (held (sizes 6 1 1 0))
     -- A with a second balance, bound 70,000: 299 × 234 does not exceed it. In balance 0 claim 1 would keep rule 5.
     ∷ case (pis 3 nodesA) twoBalances (rule 5 (1 ∷ []))
+    -- A with claims of sets 256, 512 and 256, the last of agent 3, which weighs nothing: its set's first claim is named.
+    ∷ case (pis 3 nodesA) (setsOfA (claimBytesIn 256 0 6 1 ∷ claimBytesIn 512 0 6 1 ∷ claimBytesIn 256 0 3 1 ∷ [])) (rule 5 (0 ∷ []))
     ∷ []
 
 -- ---- the readers: files, and what the reader says
@@ -296,7 +303,7 @@ endings =
 
 pub record Unlisted : Type 0 where
   pub array : (ArrayNumber 0 → ⊥) × (ArrayNumber 13 → ⊥)
-  pub table : (TableNumber 0 → ⊥) × (TableNumber 22 → ⊥)
+  pub table : (TableNumber 0 → ⊥) × (TableNumber 22 → ⊥) × (TableNumber 29 → ⊥) × (TableNumber 31 → ⊥)
   pub start : (StartNumber 13 → ⊥) × (StartNumber 23 → ⊥) × (StartNumber 27 → ⊥) × (StartNumber 29 → ⊥)
   pub step : (StepNumber 13 → ⊥) × (StepNumber 21 → ⊥) × (StepNumber 30 → ⊥)
   pub walk : (WalkNumber 13 → ⊥) × (WalkNumber 21 → ⊥) × (WalkNumber 24 → ⊥) × (WalkNumber 28 → ⊥)

@@ -1,14 +1,15 @@
 -- The front page's definitions: what the readers' and the checker's answers say, what they must say, and what held promises.
-use Prim.Native.Nat.{ℕ}
+use Prim.Native.Nat.{ℕ, _≤_}
 use mathlib.Core.Path.{_≡_}
 use mathlib.Core.Logic.{_↔_}
+use mathlib.Core.Bool.{false}
 use mathlib.Core.List.{List, [], _∷_}
 use Rattle.laws.specs.Search.{clear, hit}
 use Rattle.model.specs.Tree.{Array}
 use Rattle.model.specs.Calculus.{Choices, Attempt, calculus, run}
 use Rattle.model.specs.Rules as M
-use Rattle.model.specs.Rules.{Table, Rules, at, verdict, FirstBroken}
-use Rattle.model.specs.Safe.{Safe}
+use Rattle.model.specs.Rules.{Table, together, Each, Rules, at, verdict, FirstBroken}
+use Rattle.model.specs.Safe.{setSum, Safe}
 use Rattle.records.specs.declared.Trailer.{Trailer}
 use Rattle.records.specs.Record.{arrayOf}
 use Rattle.arrays.specs.declared.ArrayAnswer.{ArrayAnswer}
@@ -78,7 +79,7 @@ says (Rule4 p q k) = done (rule 4 (p ∷ q ∷ k ∷ []))
 says (Rule5 c) = done (rule 5 (c ∷ []))
 says (Refused r) = refused (r .number) (r .place)
 
--- ---- what the answer must be: the first refusal of 1 to 21, else the first broken rule and its place, else held
+-- ---- what the answer must be: the first refusal of 1 to 21 and 30, else the first broken rule and its place, else held
 
 abbrev pub afterRules : M.Verdict → Outcome → Outcome
 afterRules clear x = x
@@ -93,6 +94,12 @@ judged f s = unlessRefused (filesRefusal f s) (afterRules (verdict (arrayIn f) (
 abbrev pub Demand3 : List ℕ → List ℕ → Type 0
 Demand3 f s = (ch : Choices) (us : List Attempt) → Safe (arrayIn f) (tableIn f s) (run calculus (arrayIn f) ch us)
 
+-- "An accepted set claim then bounds the sum of its agents' counts, each agent taken once, in every reachable configuration" (02, request i).
+abbrev pub SetsBounded : List ℕ → List ℕ → Type 0
+SetsBounded f s =
+    (ch : Choices) (us : List Attempt)
+    → Each (tableIn f s .claims) λ q. setSum (arrayIn f .size) (tableIn f s) q (run calculus (arrayIn f) ch us) ≤ tableIn f s .claim q .most
+
 -- ---- the whole promise of an answer
 
 abbrev pub IsHeld : Reply Outcome → Type 0
@@ -106,6 +113,9 @@ pub record Judges (f s : List ℕ) (v : Verdict) : Type 0 where
   pub exactly : filesRefusal f s ≡ clear → IsHeld (says v) ↔ Rules (arrayIn f) (tableIn f s)
   -- and otherwise the rule named fails at the place named, and everything before it holds
   pub breaks : (r : ℕ) (figures : List ℕ) → says v ≡ done (rule r figures) → FirstBroken (arrayIn f) (tableIn f s) (at r figures)
+  -- "rule 5 names its first claim" (02, request i): no claim before it is of its set
+  pub names : (c : ℕ) → says v ≡ done (rule 5 (c ∷ [])) → Each c λ d. together (tableIn f s) c d ≡ false
   pub holds : IsHeld (says v) → Demand3 f s
+  pub bounds : IsHeld (says v) → SetsBounded f s
   -- a refusal is one of those that table calls use
   pub listed : (n p : ℕ) → says v ≡ refused n p → TableNumber n

@@ -32,7 +32,7 @@ fn pack_rule(number: u64, first: usize, second: usize, third: usize) -> u64
 
 // A refusal's number with its place.
 fn pack_refusal(r: Refusal) -> u64
-    requires { ⌜ (r .number ≤ 29) × (r .place < 2 ^ 16) ⌝ }
+    requires { ⌜ (r .number ≤ 39) × (r .place < 2 ^ 16) ⌝ }
     ensures { λ x. ⌜ x ≡ denied (r .number) (r .place) ⌝ }
 {
     100 + r.number as u64 + 256 * r.place as u64

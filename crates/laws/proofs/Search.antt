@@ -1,14 +1,17 @@
 -- The laws of tests, searches and sums: what a search that finds nothing says, what one that finds something says,
 -- and how a loop that counts up builds one.
-use Prim.Native.Nat.{ℕ, zero, suc, _+_, _*_, _≤_, _<_, zero-le}
-use native.Mathlib.Nat.{eq-or-lt-of-le, not-suc-le-zero, le-of-suc-le-suc, add-zero, add-suc, mul-zero, mul-suc, add-le-add, zero-mul, add-mul}
+use Prim.Native.Nat.{ℕ, zero, suc, _+_, _*_, _≤_, _<_, zero-le, min}
+use native.Mathlib.Nat.{eq-or-lt-of-le, not-suc-le-zero, le-of-suc-le-suc, le-trans, add-zero, add-suc, mul-zero, mul-suc, add-le-add, zero-mul, add-mul}
+use native.Mathlib.Nat.{min-le-left, min-le-right, min-eq-left, min-eq-right}
 use native.Mathlib.Numerals.{add-one}
 use native.Mathlib.Omega.{arith}
 use mathlib.Core.Path.{_≡_, refl, sym, ap, ap₂, _∙_}
 use mathlib.Core.Logic.{_⊎_, inl, inr, _≢_, ⊎-elim}
 use mathlib.Core.Bool as B
 use mathlib.Core.Bool.{Bool, true, false, not, _&&_, _||_, and-true, and-false, and-assoc, or-assoc, and-or-distrib-left, false≢true, true≢false}
-use Rattle.laws.specs.Search.{Found, clear, hit, test, andThen, under, first, every, any, sum}
+use lib.Dec.{leb}
+use borrow.Author.Tests.{leb-true, leb-false}
+use Rattle.laws.specs.Search.{Found, clear, hit, test, andThen, under, first, every, any, sum, least}
 
 -- ---- tests
 
@@ -406,3 +409,60 @@ unfolding sum
 sum-swap zero n f = sym (sum-zeros n)
 sum-swap (suc m) n f =
     ap (λ (x : ℕ). x + sum n (λ j. f m j)) (sum-swap m n f) ∙ sym (sum-add n (λ j. sum m (λ i. f i j)) (λ j. f m j))
+
+-- only one term is not 0
+pub sum-only : (n : ℕ) (f : ℕ → ℕ) (i : ℕ) → i < n → ((j : ℕ) → j ≢ i → f j ≡ 0) → sum n f ≡ f i
+unfolding sum
+sum-only zero f i h z = absurd (not-suc-le-zero h)
+sum-only (suc n) f i h z = go (λ l. sum-only n f i l z) (eq-or-lt-of-le (le-of-suc-le-suc h))
+  where
+    go : (i < n → sum n f ≡ f i) → (i ≡ n) ⊎ (i < n) → sum n f + f n ≡ f i
+    go rest (inl q) =
+        let e = sum-same n f (λ j. 0) (λ j l. z j (λ p. absurd (omega arith))) ∙ sum-zeros n in
+        let r = ap f q in
+        omega arith
+    go rest (inr l) =
+        let e = rest l in
+        let r = z n (λ p. absurd (omega arith)) in
+        omega arith
+
+-- ---- the least of numbers
+
+-- it is no more than any of them
+pub least-le : (n : ℕ) (p : ℕ → Bool) (f : ℕ → ℕ) (x j : ℕ) → j < n → p j ≡ true → least n p f x ≤ f j
+unfolding least
+least-le zero p f x j h e = absurd (not-suc-le-zero h)
+least-le (suc n) p f x j h e = go (λ l. least-le n p f x j l e) (p n) refl (eq-or-lt-of-le (le-of-suc-le-suc h))
+  where
+    go : (j < n → least n p f x ≤ f j) → (b : Bool) → p n ≡ b → (j ≡ n) ⊎ (j < n) → B.cond b (min (f n) (least n p f x)) (least n p f x) ≤ f j
+    go rest true q (inl i) = rw i (min-le-left (f n) (least n p f x))
+    go rest true q (inr l) = le-trans (min-le-right (f n) (least n p f x)) (rest l)
+    go rest false q (inl i) = absurd (true≢false (sym e ∙ ap p i ∙ q))
+    go rest false q (inr l) = rest l
+
+-- and it is one of them
+abbrev OneOf : ℕ → (ℕ → Bool) → (ℕ → ℕ) → ℕ → ℕ → Type 0
+OneOf n p f x y = (y ≡ x) ⊎ ((j : ℕ) × (j < n) × (p j ≡ true) × (y ≡ f j))
+
+pub least-is : (n : ℕ) (p : ℕ → Bool) (f : ℕ → ℕ) (x : ℕ) → (least n p f x ≡ x) ⊎ ((j : ℕ) × (j < n) × (p j ≡ true) × (least n p f x ≡ f j))
+unfolding least
+least-is zero p f x = inl refl
+least-is (suc n) p f x = go (least-is n p f x) (p n) refl
+  where
+    more : (y : ℕ) → y ≡ least n p f x → OneOf n p f x (least n p f x) → OneOf (suc n) p f x y
+    more y e (inl q) = inl (e ∙ q)
+    more y e (inr (j, l, t, q)) = inr (j, omega arith, t, e ∙ q)
+
+    go : OneOf n p f x (least n p f x) → (b : Bool) → p n ≡ b → OneOf (suc n) p f x (B.cond b (min (f n) (least n p f x)) (least n p f x))
+    go rest true q =
+        ⊎-elim (λ l. inr (n, omega arith, q, min-eq-left (leb-true (f n) _ l)))
+        (λ l. let h = leb-false (f n) (least n p f x) l in more _ (min-eq-right (omega arith)) rest) (decided (leb (f n) (least n p f x)))
+    go rest false q = more _ refl rest
+
+pub least-same : (n : ℕ) {p q : ℕ → Bool} {f g : ℕ → ℕ} {x y : ℕ} → ((j : ℕ) → j < n → p j ≡ q j) → ((j : ℕ) → j < n → f j ≡ g j) → x ≡ y
+    → least n p f x ≡ least n q g y
+unfolding least
+least-same zero hp hf e = e
+least-same (suc n) hp hf e =
+    let rest = least-same n (λ j l. hp j (omega arith)) (λ j l. hf j (omega arith)) e in
+    rw (hp n (omega arith), hf n (omega arith), rest)

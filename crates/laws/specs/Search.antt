@@ -1,6 +1,6 @@
 -- Searches for the first failure: every refusal and every rule of 01 is one, and so is their order.
-use Prim.Native.Nat.{ℕ, zero, suc, _+_}
-use mathlib.Core.Bool.{Bool, true, false, _&&_, _||_}
+use Prim.Native.Nat.{ℕ, zero, suc, _+_, min}
+use mathlib.Core.Bool.{Bool, true, false, cond, _&&_, _||_}
 
 -- Nothing failed, or the first failure.
 pub data Found (A : Type 0) : Type 0 where
@@ -41,3 +41,8 @@ any (suc n) f = any n f || f n
 unfoldable pub sum : ℕ → (ℕ → ℕ) → ℕ
 sum zero f = 0
 sum (suc n) f = sum n f + f n
+
+-- the least of x and of f at the numbers below n that pass a test
+unfoldable pub least : ℕ → (ℕ → Bool) → (ℕ → ℕ) → ℕ → ℕ
+least zero p f x = x
+least (suc n) p f x = cond (p n) (min (f n) (least n p f x)) (least n p f x)

@@ -1,5 +1,5 @@
--- The table file: its parts, the table that its bytes stand for, and refusals 13 to 21 (01, "The table file", "Refusals, in
--- checking order").
+-- The table file: its parts, the table that its bytes stand for, and refusals 13 to 21 and 30 (01, "The table file", "Refusals, in
+-- checking order"; 02, request i).
 use Prim.Native.Nat.{ℕ, _+_, _*_, _-_, _/_, _%_, _≤_}
 use mathlib.Core.Path.{_≡_}
 use mathlib.Core.Bool.{Bool, cond, not, _&&_, _||_}
@@ -12,7 +12,8 @@ use Rattle.wire.specs.Numbers.{u16At, u32At, wordSum}
 use Rattle.model.specs.Tree.{Array, nodeAt, isAgent, isNew}
 use Rattle.model.specs.Formed as F
 use Rattle.model.specs.Formed.{refuse}
-use Rattle.model.specs.Rules.{Table, rowBits}
+use Rattle.model.specs.declared.Claim.{Claim}
+use Rattle.model.specs.Rules.{Table, rowBits, together}
 use Rattle.records.specs.declared.Trailer.{Trailer}
 use Rattle.records.specs.Record.{arrayOf}
 use Rattle.layout.specs.declared.Sizes.{Sizes}
@@ -42,7 +43,7 @@ balanceSize z = 4 + 2 * (z .nodes + z .nodes % 2)
 abbrev pub balanceAt : Sizes → ℕ → ℕ
 balanceAt z k = rowSize (z .form) * z .names + k * balanceSize z
 
--- "Claims: Q of them; each has four 16-bit numbers: agent, most, balance, zero."
+-- "Claims: Q of them; each has four 16-bit numbers: agent, most, balance, zero." "A claim's last number becomes a set number" (02, request i).
 abbrev pub claimAt : Sizes → ℕ → ℕ
 claimAt z c = balanceAt z (z .balances) + 8 * c
 
@@ -66,13 +67,16 @@ rowBit s z v o = bit (getD s (rowSize (z .form) * v + o / 8) 0) (o % 8)
 abbrev pub weightAt : List ℕ → ℕ → ℕ → ℕ
 weightAt s at i = u16At s (at + 4 + 2 * i)
 
+abbrev pub claimOf : List ℕ → ℕ → Claim
+claimOf s at = record { agent = u16At s at; most = u16At s (at + 2); balance = u16At s (at + 4); set = u16At s (at + 6) }
+
 abbrev pub tableOf : List ℕ → Sizes → Table
 tableOf s z = record {
   row = rowBit s z;
   balances = z .balances;
   balance = λ k. record { bound = u32At s (balanceAt z k); weight = weightAt s (balanceAt z k) };
   claims = z .claims;
-  claim = λ c. record { agent = u16At s (claimAt z c); most = u16At s (claimAt z c + 2); balance = u16At s (claimAt z c + 4) };
+  claim = λ c. claimOf s (claimAt z c);
 }
 
 -- ---- the refusals
@@ -134,12 +138,22 @@ paddingFits a s at = eqb (a .size % 2) 0 || eqb (weightAt s at (a .size)) 0
 unfoldable pub refusal20 : Array → List ℕ → Sizes → Found F.Refusal
 refusal20 a s z = first (z .balances) λ k. refuse 20 k (weightsFit a s (balanceAt z k) && paddingFits a s (balanceAt z k))
 
--- "21. A claim's agent is no agent node, its balance isn't below K, or its last number isn't zero (claim)."
-abbrev pub claimFits : Array → List ℕ → ℕ → ℕ → Bool
-claimFits a s k at = isAgent (nodeAt a (u16At s at)) && ltb (u16At s (at + 4)) k && eqb (u16At s (at + 6)) 0
+-- "21. A claim's agent is no agent node, its balance isn't below K" (claim); "The zero test in 21 goes" (02, request i).
+abbrev pub claimFits : Array → ℕ → Claim → Bool
+claimFits a k x = isAgent (nodeAt a (x .agent)) && ltb (x .balance) k
 
-unfoldable pub refusal21 : Array → List ℕ → Sizes → Found F.Refusal
-refusal21 a s z = first (z .claims) λ c. refuse 21 c (claimFits a s (z .balances) (claimAt z c))
+unfoldable pub refusal21 : Array → Table → Found F.Refusal
+refusal21 a t = first (t .claims) λ c. refuse 21 c (claimFits a (t .balances) (t .claim c))
+
+-- "30 when two claims of a set differ in most or balance, checked after 21 (claim: the later)": claim c differs from none before it
+abbrev pub agrees : Claim → Claim → Bool
+agrees x y = eqb (x .most) (y .most) && eqb (x .balance) (y .balance)
+
+unfoldable pub setFits : Table → ℕ → Bool
+setFits t c = every c λ d. not (together t c d) || agrees (t .claim c) (t .claim d)
+
+unfoldable pub refusal30 : Table → Found F.Refusal
+refusal30 t = first (t .claims) λ c. refuse 30 c (setFits t c)
 
 -- ---- a table that was read
 
@@ -151,9 +165,18 @@ pub record Laid (t : Trailer) (s : List ℕ) (z : Sizes) : Type 0 where
   pub fewClaims : z .claims ≤ 256
   pub fills : claimAt z (z .claims) + 28 ≡ length s
 
+-- the claims lie in the file, and where they stand is a small number
+pub record ClaimsLie (s : List ℕ) (z : Sizes) : Type 0 where
+  pub nodes : z .nodes ≤ 1024
+  pub names : z .names ≤ 256
+  pub balances : z .balances ≤ 24
+  pub few : z .claims ≤ 256
+  pub inside : claimAt z (z .claims) ≤ length s
+
 -- table s was read beside the array file f, whose trailer says t
 pub record IsTable (f : List ℕ) (t : Trailer) (s : List ℕ) (z : Sizes) : Type 0 where
   pub laid : Laid t s z
   pub rows : refusal19 (arrayOf f t) s z ≡ clear
   pub weights : refusal20 (arrayOf f t) s z ≡ clear
-  pub claims : refusal21 (arrayOf f t) s z ≡ clear
+  pub claims : refusal21 (arrayOf f t) (tableOf s z) ≡ clear
+  pub sets : refusal30 (tableOf s z) ≡ clear

@@ -1,9 +1,10 @@
 // The parts of a table file: sizes, offsets, and the table that the bytes stand for.
-// Promises equations with specs/Table, which also holds refusals 13 to 21. Depends on records, wire, model and laws.
+// Promises equations with specs/Table, which also holds refusals 13 to 21 and 30. Depends on records, wire, model and laws.
 ghost use mathlib.Core.Path.{_≡_};
-ghost use Prim.Native.Nat.{_≤_};
+ghost use Prim.Native.Nat.{_≤_, _<_};
 ghost use lib.ListN.{length};
-ghost use Rattle.layout.specs.Table.{tableForm, rowSize, mostBalances, sizesOf, balanceSize, balanceAt, claimAt};
+ghost use Rattle.layout.specs.Table.{tableForm, rowSize, mostBalances, sizesOf, balanceSize, balanceAt, claimAt, claimOf, ClaimsLie};
+use model::Claim;
 use records::Trailer;
 
 // M, N, K and Q, and which format the letters name: 1 for `PIC1`, 0 for letters that are none.
@@ -76,4 +77,18 @@ pub fn claim_at(z: Sizes, c: usize) -> usize
     ensures { λ n. ⌜ n ≡ claimAt z c ⌝ }
 {
     balance_at(z, z.balances) + 8 * c
+}
+
+// Claim c.
+pub fn read_claim(table: &[u8], z: Sizes, c: usize) -> Claim
+    requires { ⌜ ClaimsLie (now table) z × (c < z .claims) ⌝ }
+    ensures { λ x. ⌜ x ≡ claimOf (now (table .entry)) (claimAt z c) ⌝ }
+{
+    let at = claim_at(z, c);
+    Claim {
+        agent: wire::u16_at(table, at),
+        most: wire::u16_at(table, at + 2),
+        balance: wire::u16_at(table, at + 4),
+        set: wire::u16_at(table, at + 6),
+    }
 }

@@ -25,19 +25,19 @@ use Rattle.model.specs.Memory as M
 use Rattle.model.specs.declared.Ending.the-variants.{Quiet, Spent, Full}
 use Rattle.model.specs.Memory.{Result, stops, leaves, standsFor}
 use Rattle.model.specs.Rules as U
-use Rattle.model.specs.Rules.{Table, Live, Rule2, Rule3, Rule4At, Rule5At, ClaimsFit, Broken, at, verdict}
-use Rattle.model.specs.Rules.{FirstAt, FirstPair, FirstBroken, broken1, broken2, broken3, broken4, broken5}
+use Rattle.model.specs.Rules.{Table, Live, Rule2, Rule3, Rule4At, ClaimsFit, Broken, at, verdict}
+use Rattle.model.specs.Rules.{FirstPair, FirstBroken, broken1, broken2, broken3, broken4, broken5}
 use Rattle.model.specs.Safe as Z
 use Rattle.model.specs.Safe.{Safe, Flows}
-use Rattle.model.specs.Cases.{A, B, D, tableA, table, claim, rowsA, weightsA, limits, tableD, opened, thread, threeOfA, twiceBroken, H, tableH}
-use Rattle.model.proofs.Verdict.{live-Live}
+use Rattle.model.specs.Cases.{A, B, D, tableA, table, claim, rowsA, weightsA, limits, joint, tableD, opened, thread, threeOfA, twiceBroken, H, tableH}
+use Rattle.model.proofs.Verdict.{live-Live, first5}
 use Rattle.model.specs.Cases.{pair, lists, walkEnded, A₁, B₀, B₁, B₁₂, B₂, B₃, B₄, G, G₁, G₂, Row, Says}
 use Rattle.model.specs.Cases.{rows, safeRows, stepRows, walkRows, toldRows, laterRows}
 use Rattle.model.proofs.Safety.{demand3}
 
 -- Whoever unfolds this unfolds every definition of the model.
 computed : Unit {0}
-unfolding F.test F.andThen F.under F.first F.every F.any F.sum L.one L.all L.has L.times L.put T.isAgent
+unfolding F.test F.andThen F.under F.first F.every F.any F.sum F.least L.one L.all L.has L.times L.put T.isAgent
     T.nodeAt T.grow T.tree T.procAt T.asAgent T.agentAt T.receives T.freeBelow T.isFree T.load T.opens T.isNew
     W.children W.params W.binds W.sent W.uses W.childFits W.refusal8 W.fieldsTo W.refusal9 W.refusal10 W.binders W.refusal11 W.reaches W.inReach W.refusal12
     S.sameMarker S.sameCell S.calculus S.stays S.bind S.keep S.unless S.onAgents S.after S.cutFrom S.unfoldProc S.markerOf S.receiverLeaves S.senderLeaves
@@ -46,6 +46,7 @@ unfolding F.test F.andThen F.under F.first F.every F.any F.sum L.one L.all L.has
     M.words M.threadIn M.threadsIn M.wordsOf M.entryIn M.entriesIn M.numbersOf M.isResource M.isOut M.wordFormed M.threadFormed M.entryFormed M.unlike M.formed
     M.decodeWord M.standsFor N.decodeTo N.decode Z.total
     M.store M.fitted M.startIn M.onAnswer M.stepIn M.isNext M.firstReady M.onPair M.onStep M.walkIn
+    U.together U.inSet U.leastWeight
     U.within U.shareBit U.fitBoth U.live U.taken U.onLive U.pairs U.check1 U.check2 U.arguments3 U.check3 U.balances4 U.check4 U.check5 U.verdict
 computed = tt
 
@@ -93,7 +94,7 @@ flow6 v h =
 brim-balances : (k : ℕ) → k < 1 → 131073 ≤ 131073
 brim-balances k h = omega arith
 
-brim-claims : (q : ℕ) → q < 2 → Z.count (λ i. eqb i (brim .claim q .agent)) (threeOfA (opened 1)) ≤ brim .claim q .most
+brim-claims : (q : ℕ) → q < 2 → Z.count (U.inSet brim q) (threeOfA (opened 1)) ≤ brim .claim q .most
 unfolding computed table
 brim-claims zero h = let z : 1 ≤ 1 = omega arith in z
 brim-claims (suc zero) h = let z : 2 ≤ 2 = omega arith in z
@@ -118,6 +119,22 @@ unsafe-row s = let f = s .flows .1 .0 2 refl in absurd (false≢true (f .3))
 unsafe-opening : Says (Row.unsafe A brim (threeOfA Cell.unheld))
 unfolding computed table
 unsafe-opening s = let f = s .flows .1 .1 .0 2 refl in absurd (true≢false (ap isHeld (sym (f .2))))
+
+joint-claims : (q : ℕ) → q < 3 → Z.count (U.inSet (joint 3) q) (threeOfA (opened 1)) ≤ joint 3 .claim q .most
+unfolding computed table
+joint-claims zero h = let z : 3 ≤ 3 = omega arith in z
+joint-claims (suc zero) h = let z : 3 ≤ 3 = omega arith in z
+joint-claims (suc (suc zero)) h = let z : 3 ≤ 3 = omega arith in z
+joint-claims (suc (suc (suc q))) h = absurd (omega arith)
+
+-- its rows and its balance are the brim's
+safe-joint : Says (Row.safe A (joint 3) (threeOfA (opened 1)))
+unfolding computed table
+safe-joint = record { flows = (flow3, (flow6, (flow6, tt))); balances = brim-balances; claims = joint-claims }
+
+unsafe-joint : Says (Row.unsafe A (joint 2) (threeOfA (opened 1)))
+unfolding computed table
+unsafe-joint s = let z : 3 ≤ 2 = s .claims 1 (omega arith) in absurd (omega (arith, z))
 
 -- ---- starts, steps, walks and endings that are none
 
@@ -297,16 +314,6 @@ first4 a t l b (broken3 r₁ r₂ i j n w) e = absurd (eqb-false 3 4 refl (ap (�
 first4 a t l b (broken4 r₁ r₂ r₃ i j n w) e = (r₂, r₃, subst (λ (d : Broken). Pair4 a t (d .place)) e w)
 first4 a t l b (broken5 r₁ r₂ r₃ r₄ c w) e = absurd (eqb-false 5 4 refl (ap (λ (d : Broken). d .rule) e))
 
-abbrev Claim5 : Table → List ℕ → Type 0
-Claim5 t l = FirstAt (t .claims) (Rule5At t) (getD l 0 0)
-
-first5 : (a : Array) (t : Table) (l : List ℕ) (b : Broken) → FirstBroken a t b → b ≡ at 5 l → Claim5 t l
-first5 a t l b (broken1 o w) e = absurd (eqb-false 1 5 refl (ap (λ (d : Broken). d .rule) e))
-first5 a t l b (broken2 r₁ k w) e = absurd (eqb-false 2 5 refl (ap (λ (d : Broken). d .rule) e))
-first5 a t l b (broken3 r₁ r₂ i j n w) e = absurd (eqb-false 3 5 refl (ap (λ (d : Broken). d .rule) e))
-first5 a t l b (broken4 r₁ r₂ r₃ i j n w) e = absurd (eqb-false 4 5 refl (ap (λ (d : Broken). d .rule) e))
-first5 a t l b (broken5 r₁ r₂ r₃ r₄ c w) e = subst (λ (d : Broken). Claim5 t (d .place)) e w
-
 -- a live pair, with its agents computed
 abbrev livePair : (a : Array) (t : Table) (i j : ℕ) → U.live t i j (agentIn (T.agentAt a i)) (agentIn (T.agentAt a j)) ≡ true
     → Live t i j (agentIn (T.agentAt a i)) (agentIn (T.agentAt a j))
@@ -349,10 +356,46 @@ kept-claim b = first5 A tableA (0 ∷ []) _ b refl .fails (omega arith)
 
 pub cases : All Says rows
 unfolding computed table
-cases = (refl, (refl, (refl, (refl, (refl, (refl, (refl, (refl, (refl, (refl, (refl, (refl, (refl, (refl, (refl, (refl, (refl, (refl, tt))))))))))))))))))
+cases = (
+  refl,
+  (
+    refl,
+    (
+      refl,
+      (
+        refl,
+        (
+          refl,
+          (
+            refl,
+            (
+              refl,
+              (
+                refl,
+                (
+                  refl,
+                  (
+                    refl,
+                    (
+                      refl,
+                      (
+                        refl,
+                        (refl, (refl, (refl, (refl, (refl, (refl, (refl, (refl, (refl, tt))))))))),
+                      ),
+                    ),
+                  ),
+                ),
+              ),
+            ),
+          ),
+        ),
+      ),
+    ),
+  ),
+)
 
 pub safe-cases : All Says safeRows
-safe-cases = (safe-brim, (unsafe-claim, (unsafe-bound, (unsafe-row, (unsafe-opening, tt)))))
+safe-cases = (safe-brim, (unsafe-claim, (unsafe-bound, (unsafe-row, (unsafe-opening, (safe-joint, (unsafe-joint, tt)))))))
 
 pub step-cases : All Says stepRows
 step-cases =

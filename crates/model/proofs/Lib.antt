@@ -4,6 +4,7 @@ pub mod Reach
 pub mod Closed
 pub mod Searches
 pub mod Verdict
+pub mod Sets
 pub mod Threads
 pub mod Stepped
 pub mod Covers

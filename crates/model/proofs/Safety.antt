@@ -2,10 +2,10 @@
 -- The invariant: each thread's free names hold openings that their rows allow, and no balance is exceeded. A start has it by rules 1
 -- and 2, a step keeps it by rules 3 and 4, and with rule 5 it bounds the claims.
 use Prim.Native.Nat.{ℕ, suc, _+_, _*_, _≤_, _<_}
-use native.Mathlib.Nat.{le-trans, le-of-suc-le-suc, lt-of-not-le, mul-le-mul-left, mul-comm, mul-suc}
+use native.Mathlib.Nat.{le-trans, le-of-suc-le-suc, lt-of-not-le, mul-le-mul-left, mul-le-mul-right, mul-comm, mul-suc}
 use native.Mathlib.Numerals.{add-one}
 use native.Mathlib.Omega.{arith}
-use mathlib.Core.Path.{_≡_, refl, sym, ap, _∙_, subst}
+use mathlib.Core.Path.{_≡_, refl, sym, ap, _∙_}
 use mathlib.Core.Logic.{_≢_}
 use mathlib.Core.Bool.{true, not, false≢true, true≢false}
 use mathlib.Core.List.{List, [], _∷_, _++_}
@@ -20,9 +20,10 @@ use Rattle.model.specs.Formed.{WellFormed}
 use Rattle.model.specs.Calculus.{Marker, Cell, unheld, holds, sameMarker, sameCell, calculus, Choices, Thread, Config, Attempt}
 use Rattle.model.specs.Calculus.{keep, stays, noThread, markerOf, receiverLeaves, senderLeaves, stepped, start, after, attempt}
 use Rattle.model.specs.Calculus.{attempts, run}
-use Rattle.model.specs.Rules.{Table, balanceOf, Live, taken, Rules, ClaimsFit, rowBits, held, verdict}
+use Rattle.model.specs.Rules.{Table, balanceOf, inSet, Live, taken, Rules, ClaimsFit, rowBits, held, verdict}
 use Rattle.model.specs.Safe.{weighed, count, Safe}
 use Rattle.model.proofs.Verdict.{held-rules}
+use Rattle.model.proofs.Sets.{least-below}
 use Rattle.model.proofs.Threads.{total-append, weighed-unfold, count-weighed, keep-one, keep-two, two-le}
 use Rattle.model.proofs.Stepped.{Meet, attempt-keeps}
 use Rattle.model.proofs.Covers as C
@@ -206,12 +207,11 @@ module _ (a : Array) (t : Table) (wf : WellFormed a) (rules : Rules a t) where
     flows = All-map (λ th ok v f. let k = ok .covers v f in (k .opening, k .marker, k .held, k .bit)) c (inv .threads);
     balances = inv .balances;
     claims = λ n h.
-        few (balanceOf t n .bound) (t .claim n .most) (count (λ i. eqb i (t .claim n .agent)) c) (weighed (balanceOf t n .weight) c)
-        (inv .balances (t .claim n .balance) (fit n h))
-        (count-weighed (balanceOf t n .weight) (λ i. eqb i (t .claim n .agent)) (suc (balanceOf t n .bound)) (t .claim n .most + 1)
-        (λ i e.
-        let five = rw mul-comm at (rules .rule5 n h) in
-        subst (λ x. suc (balanceOf t n .bound) ≤ (t .claim n .most + 1) * balanceOf t n .weight x) (sym (eqb-true _ _ e)) five) c);
+        let bound = balanceOf t n .bound in
+        let five = rules .rule5 n h in
+        few bound (t .claim n .most) (count (inSet t n) c) (weighed (balanceOf t n .weight) c) (inv .balances (t .claim n .balance) (fit n h))
+        (count-weighed (balanceOf t n .weight) (inSet t n) (suc bound) (t .claim n .most + 1)
+        (λ i e. rw mul-comm (le-trans five (mul-le-mul-right (t .claim n .most + 1) (least-below t n i e)))) c);
   }
 
 -- Demand 3: a well-formed array, a table whose claims name its balances, accepted; any choices at the start, any list of attempts.

@@ -1,21 +1,21 @@
 -- The verdict is held exactly where the five rules hold; where it is broken, the named rule is false at the named place and everything
 -- before it holds. Each rule's test decides its statement (decides1 to decides5); the rest is the laws of searches (Searches), so another
 -- rule means its statement, its test and its lemma here. What a false rule lacks or exceeds follows at the end.
-use Prim.Native.Nat.{ℕ, suc, _+_, _≤_, _<_}
+use Prim.Native.Nat.{ℕ, suc, _+_, _*_, _≤_, _<_}
 use native.Mathlib.Nat.{lt-of-not-le, le-of-suc-le-suc}
 use mathlib.Core.Path.{_≡_, refl, ap, subst}
 use mathlib.Core.Logic.{_↔_}
 use mathlib.Core.Bool.{Bool, true, false, not, _&&_}
 use mathlib.Core.Option.{Option, none, some}
-use mathlib.Core.List.{[], _∷_}
+use mathlib.Core.List.{List, [], _∷_}
 use lib.Dec.{leb}
 use lib.ListN.{getD}
-use borrow.Author.Tests.{ltb-true, leb-true, eqb-true, lt-ltb, le-leb, eq-eqb, not-true, not-false}
+use borrow.Author.Tests.{ltb-true, leb-true, eqb-true, lt-ltb, le-leb, eq-eqb, not-true, not-false, eqb-false}
 use Rattle.laws.specs.Search.{clear, hit, test, first}
 use Rattle.laws.proofs.Search.{and-split, and-join, or-false, implies, implied, clear-hit, every-true, true-every, every-false, any-true, true-any}
 use Rattle.model.specs.Tree.{Array, Agent, agentAt, isNew}
 use Rattle.model.specs.Rules.{Table, Balance, rowBits, balanceOf, Within, within, Live, live, shareBit, fitBoth, Rule1At, rule1At, rootLoad, Rule2At}
-use Rattle.model.specs.Rules.{rule2At, Rule3At, rule3At, loadLeft, weightGone, Rule4At, rule4At, claimWeight, Rule5At, rule5At, Pairs, arity}
+use Rattle.model.specs.Rules.{rule2At, Rule3At, rule3At, loadLeft, weightGone, Rule4At, rule4At, leastWeight, Rule5At, rule5At, Pairs, arity}
 use Rattle.model.specs.Rules.{Rules, Broken, Verdict, held, at, onLive, pairs, check1, check2, arguments3, check3}
 use Rattle.model.specs.Rules.{balances4, check4, check5, verdict, FirstAt, FirstPair, FirstBroken, broken1, broken2, broken3, broken4, broken5}
 use Rattle.model.proofs.Searches.{Decides, refutes, Finds, finds-as, under-finds, andThen-finds, first-finds, tests-find}
@@ -163,6 +163,18 @@ module _ (a : Array) (t : Table) where
   pub first-broken : (b : Broken) → verdict a t ≡ hit b → FirstBroken a t b
   first-broken = verdict-finds .found
 
+-- ---- a broken rule 5 names a claim
+
+abbrev pub Claim5 : Table → List ℕ → Type 0
+Claim5 t l = FirstAt (t .claims) (Rule5At t) (getD l 0 0)
+
+pub first5 : (a : Array) (t : Table) (l : List ℕ) (b : Broken) → FirstBroken a t b → b ≡ at 5 l → Claim5 t l
+first5 a t l b (broken1 o w) e = absurd (eqb-false 1 5 refl (ap (λ (d : Broken). d .rule) e))
+first5 a t l b (broken2 r₁ k w) e = absurd (eqb-false 2 5 refl (ap (λ (d : Broken). d .rule) e))
+first5 a t l b (broken3 r₁ r₂ i j n w) e = absurd (eqb-false 3 5 refl (ap (λ (d : Broken). d .rule) e))
+first5 a t l b (broken4 r₁ r₂ r₃ i j n w) e = absurd (eqb-false 4 5 refl (ap (λ (d : Broken). d .rule) e))
+first5 a t l b (broken5 r₁ r₂ r₃ r₄ c w) e = subst (λ (d : Broken). Claim5 t (d .place)) e w
+
 -- ---- what a rule that is false at a place says of it
 
 pub lacks1 : (a : Array) (t : Table) (o : ℕ) → (Rule1At a t o → ⊥) → (isNew a o ≡ true) × (t .row o o ≡ false)
@@ -183,5 +195,5 @@ lacks3 t p q n f =
 pub exceeds4 : (t : Table) (i j : ℕ) (p q : Agent) (k : ℕ) → (Rule4At t i j p q k → ⊥) → weightGone (t .balance k) i j p < loadLeft (t .balance k) p q
 exceeds4 t i j p q k n = lt-of-not-le n
 
-pub reached5 : (t : Table) (c : ℕ) → (Rule5At t c → ⊥) → claimWeight t c ≤ balanceOf t c .bound
+pub reached5 : (t : Table) (c : ℕ) → (Rule5At t c → ⊥) → leastWeight t c * (t .claim c .most + 1) ≤ balanceOf t c .bound
 reached5 t c n = le-of-suc-le-suc (lt-of-not-le n)

@@ -13,7 +13,8 @@ use Rattle.model.specs.declared.Ending.the-variants.{Quiet, Spent, Full}
 use Rattle.model.specs.Memory.{Memory, Result, stops, leaves, startIn, stepIn, formed, Walked, walkIn}
 use Rattle.model.specs.Memory.{standsFor, Starts, Follows, Walks, Ends, Next, moved, Tells}
 use Rattle.model.specs.Memory as M
-use Rattle.model.specs.Rules.{Table, Claim, Broken, Verdict, held, at, verdict, check5, FirstBroken}
+use Rattle.model.specs.declared.Claim.{Claim}
+use Rattle.model.specs.Rules.{Table, Broken, Verdict, held, at, verdict, check5, FirstBroken}
 use Rattle.model.specs.Safe.{Safe}
 
 -- an array of listed nodes
@@ -100,6 +101,13 @@ H =
     ∷ Node.stop
     ∷ [])
 
+-- a claim on balance 0 that stands alone, and one of a set
+abbrev pub claim : ℕ → ℕ → Claim
+claim i m = record { agent = i; most = m; balance = 0; set = 0 }
+
+abbrev pub claimIn : ℕ → ℕ → ℕ → Claim
+claimIn n i m = record { agent = i; most = m; balance = 0; set = n }
+
 -- a table of its rows, one balance (bound, weights by node) and claims on it (agent, most)
 unfoldable pub table : List (List ℕ) → ℕ → List ℕ → List Claim → Table
 table rows b ws cs = record {
@@ -107,11 +115,8 @@ table rows b ws cs = record {
   balances = 1;
   balance = λ k. record { bound = b; weight = λ i. getD ws i 0 };
   claims = length cs;
-  claim = λ q. getD cs q record { agent = 0; most = 0; balance = 0 };
+  claim = λ q. getD cs q (claim 0 0);
 }
-
-abbrev pub claim : ℕ → ℕ → Claim
-claim i m = record { agent = i; most = m; balance = 0 }
 
 -- "Rows {0}, {1}, {1}; balance w5 = w6 = 1, bound 1; claim 6, most 1."
 abbrev pub rowsA : List (List ℕ)
@@ -190,6 +195,12 @@ abbrev pub limits : List ℕ → ℕ → ℕ → Table
 limits row2 bound most =
     table ((0 ∷ []) ∷ (1 ∷ []) ∷ row2 ∷ []) bound (0 ∷ 0 ∷ 0 ∷ 3 ∷ 0 ∷ 0 ∷ 65535 ∷ 0 ∷ []) (claim 3 1 ∷ claim 6 most ∷ [])
 
+-- the same rows and weights, filled to the brim, and one set of agents 3 and 6, where 6 is named twice
+abbrev pub joint : ℕ → Table
+joint most =
+    table ((0 ∷ []) ∷ (1 ∷ []) ∷ (1 ∷ []) ∷ []) 131073 (0 ∷ 0 ∷ 0 ∷ 3 ∷ 0 ∷ 0 ∷ 65535 ∷ 0 ∷ [])
+    (claimIn 7 3 most ∷ claimIn 7 6 most ∷ claimIn 7 6 most ∷ [])
+
 -- D with weights of its resource's senders 5 and 6, and of 10, which it leaves
 abbrev pub tableD : ℕ → ℕ → ℕ → Table
 tableD bound w5 w10 = table ((0 ∷ []) ∷ (1 ∷ []) ∷ []) bound (0 ∷ 0 ∷ 0 ∷ 0 ∷ 0 ∷ w5 ∷ w5 ∷ 0 ∷ 0 ∷ 0 ∷ w10 ∷ []) []
@@ -253,6 +264,10 @@ rows =
     ∷ judged A (table ((0 ∷ []) ∷ [] ∷ (1 ∷ []) ∷ []) 1 weightsA (claim 6 1 ∷ [])) (hit (at 1 (1 ∷ [])))
     -- *A, w6 = 2: rule 4 at 5, 3, 0.
     ∷ judged A (table rowsA 1 (0 ∷ 0 ∷ 0 ∷ 0 ∷ 0 ∷ 1 ∷ 2 ∷ 0 ∷ []) (claim 6 1 ∷ [])) (hit (at 4 (5 ∷ 3 ∷ 0 ∷ [])))
+    -- A with agents 5 and 6 in one set: at most one of the two. Most 0 is not met, nor is a set with 3, which weighs nothing.
+    ∷ judged A (table rowsA 1 weightsA (claimIn 1 5 1 ∷ claimIn 1 6 1 ∷ [])) held
+    ∷ judged A (table rowsA 1 weightsA (claimIn 1 5 0 ∷ claimIn 1 6 0 ∷ [])) (hit (at 5 (0 ∷ [])))
+    ∷ judged A (table rowsA 1 weightsA (claim 6 1 ∷ claimIn 2 6 1 ∷ claimIn 2 3 1 ∷ [])) (hit (at 5 (1 ∷ [])))
     -- *B, w2 = w5 = 1, bound 1: accepted.
     ∷ judged B (row0 1 (0 ∷ 0 ∷ 1 ∷ 0 ∷ 0 ∷ 1 ∷ 0 ∷ [])) held
     -- *B, only w5 = 1, bound 1: rule 4 at 4, 2, 0.
@@ -284,6 +299,9 @@ safeRows =
     ∷ unsafe A (limits (1 ∷ []) 131072 2) (threeOfA (opened 1))
     ∷ unsafe A (limits [] 131073 2) (threeOfA (opened 1))
     ∷ unsafe A (limits (1 ∷ []) 131073 2) (threeOfA Cell.unheld)
+    -- A set's threads are counted together, an agent that is named twice once: one thread of 3 and two of 6 are three.
+    ∷ safe A (joint 3) (threeOfA (opened 1))
+    ∷ unsafe A (joint 2) (threeOfA (opened 1))
     ∷ []
 
 -- what a start and a step are not

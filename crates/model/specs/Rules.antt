@@ -7,19 +7,15 @@ use mathlib.Core.List.{List, [], _∷_}
 use mathlib.Core.Option.{Option, none, some}
 use lib.Dec.{eqb, leb, ltb}
 use lib.ListN.{length, getD}
-use Rattle.laws.specs.Search.{Found, clear, test, andThen, under, first, every, any}
+use Rattle.laws.specs.Search.{Found, clear, test, andThen, under, first, every, any, least}
 use Rattle.model.specs.Tree.{Array, Sort, out, inp, resource, Agent, agentAt, procAt, receives, load, isNew}
+use Rattle.model.specs.declared.Claim.{Claim}
 
 -- ---- the table
 
 pub record Balance : Type 0 where
   pub bound : ℕ
   pub weight : ℕ → ℕ
-
-pub record Claim : Type 0 where
-  pub agent : ℕ
-  pub most : ℕ
-  pub balance : ℕ
 
 -- "Row v has bit o where name v may hold a channel opened by new o."
 pub record Table : Type 0 where
@@ -43,6 +39,23 @@ Within t u v = (o : ℕ) → o < rowBits → t .row u o ≡ true → t .row v o 
 
 unfoldable pub within : Table → ℕ → ℕ → Bool
 within t u v = every rowBits λ o. not (t .row u o) || t .row v o
+
+-- ---- sets of claims (02, request i)
+
+-- "A claim's last number becomes a set number; 0 stands alone, equal others form one set": claim d is of claim c's set
+unfoldable pub together : Table → ℕ → ℕ → Bool
+together t c d = eqb c d || (not (eqb (t .claim c .set) 0) && eqb (t .claim d .set) (t .claim c .set))
+
+-- agent i is in claim c's set: a claim of the set names it
+unfoldable pub inSet : Table → ℕ → ℕ → Bool
+inSet t c i = any (t .claims) λ d. together t c d && eqb i (t .claim d .agent)
+
+-- "its least weight": of the agents that the set's claims name, c's own among them, in c's balance
+abbrev pub agentWeight : Table → ℕ → ℕ → ℕ
+agentWeight t c d = balanceOf t c .weight (t .claim d .agent)
+
+unfoldable pub leastWeight : Table → ℕ → ℕ
+leastWeight t c = least (t .claims) (together t c) (agentWeight t c) (agentWeight t c c)
 
 -- ---- live pairs
 
@@ -116,15 +129,14 @@ Rule4At t i j p q k = loadLeft (t .balance k) p q ≤ weightGone (t .balance k) 
 abbrev pub rule4At : Table → ℕ → ℕ → Agent → Agent → ℕ → Bool
 rule4At t i j p q k = leb (loadLeft (t .balance k) p q) (weightGone (t .balance k) i j p)
 
--- "5. For every claim, its agent's weight in its balance × (most + 1) exceeds that balance's bound (claim)."
-abbrev pub claimWeight : Table → ℕ → ℕ
-claimWeight t c = balanceOf t c .weight (t .claim c .agent) * (t .claim c .most + 1)
-
+-- "5. For every claim, its agent's weight in its balance × (most + 1) exceeds that balance's bound (claim)", as 02 (request i) has it:
+-- "A set is met when its least weight × (most + 1) exceeds the bound; rule 5 names its first claim." A set's claims agree in most and
+-- balance (30), so the lowest claim whose set is not met is its set's first (proofs/Sets: first-of-set).
 abbrev pub Rule5At : Table → ℕ → Type 0
-Rule5At t c = balanceOf t c .bound < claimWeight t c
+Rule5At t c = balanceOf t c .bound < leastWeight t c * (t .claim c .most + 1)
 
 abbrev pub rule5At : Table → ℕ → Bool
-rule5At t c = ltb (balanceOf t c .bound) (claimWeight t c)
+rule5At t c = ltb (balanceOf t c .bound) (leastWeight t c * (t .claim c .most + 1))
 
 -- ---- the five rules
 
@@ -167,7 +179,14 @@ pub record Rules (a : Array) (t : Table) : Type 0 where
 
 -- what refusal 21 leaves of the claims: each names a balance of the table
 abbrev pub ClaimsFit : Table → Type 0
-ClaimsFit t = (c : ℕ) → c < t .claims → t .claim c .balance < t .balances
+ClaimsFit t = Each (t .claims) λ c. t .claim c .balance < t .balances
+
+-- two claims agree in most and in balance; what refusal 30 leaves of the claims: those of one set do
+abbrev pub Agree : Claim → Claim → Type 0
+Agree x y = (x .most ≡ y .most) × (x .balance ≡ y .balance)
+
+abbrev pub SetsAgree : Table → Type 0
+SetsAgree t = Each (t .claims) λ c. Each (t .claims) λ d. together t c d ≡ true → Agree (t .claim c) (t .claim d)
 
 -- ---- the verdict
 

@@ -26,7 +26,7 @@ listTable rows loads bounds n = record {
   balances = n;
   balance = λ k. record { bound = getD bounds k 0; weight = λ i. loadIn loads i k };
   claims = 0;
-  claim = λ c. record { agent = 0; most = 0; balance = 0 };
+  claim = λ c. record { agent = 0; most = 0; balance = 0; set = 0 };
 }
 
 -- the lists have room for n balances and 256 names

@@ -6,14 +6,15 @@ use mathlib.Core.Path.{_≡_, refl, sym, ap, ap₂, _∙_}
 use mathlib.Core.Bool.{Bool, true, not, _&&_, _||_}
 use mathlib.Core.List.{List, [], _∷_}
 use mathlib.Core.Option.{Option, none, some}
-use lib.Dec.{leb, ltb}
+use lib.Dec.{eqb, leb, ltb}
 use lib.ListN.{length, getD}
-use Rattle.laws.specs.Search.{test, first, every}
-use Rattle.laws.proofs.Search.{first-same, every-same, any-same}
+use Rattle.laws.specs.Search.{test, first, every, least}
+use Rattle.laws.proofs.Search.{first-same, every-same, any-same, least-same}
 use Rattle.laws.proofs.Lists.{All-at}
 use Rattle.model.specs.Tree.{Array, Node, nodeAt, isAgent, isNew, Sort, Proc, grow, procAt, Agent, agentAt, load}
 use Rattle.model.specs.Formed.{WellFormed}
-use Rattle.model.specs.Rules.{Table, Claim, rowBits, within, shareBit, fitBoth, live, taken}
+use Rattle.model.specs.declared.Claim.{Claim}
+use Rattle.model.specs.Rules.{Table, rowBits, balanceOf, together, agentWeight, leastWeight, within, shareBit, fitBoth, live, taken}
 use Rattle.model.specs.Rules.{Verdict, at, onLive, pairs, check1, check2, arguments3, check3, balances4, check4, check5, verdict}
 use Rattle.model.proofs.Tree.{procAt-grow, agent-below, AgentWf, Wf, wf-procAt, agent-tree}
 
@@ -144,14 +145,30 @@ module _ (a : Array) (ok : WellFormed a) where
         (ap₂ _+_ (e .weights k j h (Q .agent)) (ap (taken (p .sort)) (e .weights k i h (P .agent))))))
 
     module _ (c : SameClaims a t u) where
+      together-alike : (n d : ℕ) → n < t .claims → d < t .claims → together t n d ≡ together u n d
+      unfolding together
+      together-alike n d h k =
+          ap₂ (λ (x y : Claim). eqb n d || (not (eqb (x .set) 0) && eqb (y .set) (x .set))) (c .same n h) (c .same d k)
+
+      -- the weight of claim d's agent in claim n's balance
+      weight-alike : (n d : ℕ) → n < t .claims → d < t .claims → agentWeight t n d ≡ agentWeight u n d
+      weight-alike n d h k =
+          ap₂ (λ (x y : Claim). (t .balance (x .balance)) .weight (y .agent)) (c .same n h) (c .same d k)
+          ∙ e .weights _ _ (c .balances n h) (c .agents d k)
+
+      least-alike : (n : ℕ) → n < t .claims → leastWeight t n ≡ leastWeight u n
+      unfolding leastWeight
+      least-alike n h =
+          least-same (t .claims) (λ d k. together-alike n d h k) (λ d k. weight-alike n d h k) (weight-alike n n h h)
+          ∙ ap (λ (m : ℕ). least m (together u n) (agentWeight u n) (agentWeight u n n)) (c .many)
+
       pub check5-alike : check5 a t ≡ check5 a u
       unfolding check5
       check5-alike =
           first-alike (c .many) _ _ (λ n h.
-          let b = c .balances n h in
-          let weighs : Claim → ℕ → Verdict = λ x bound. test (ltb bound ((t .balance (x .balance)) .weight (x .agent) * (x .most + 1))) (at 5 (n ∷ [])) in
-          ap (λ (x : Claim). weighs x ((t .balance (x .balance)) .bound)) (c .same n h)
-          ∙ ap₂ (λ (x y : ℕ). test (ltb x (y * (u .claim n .most + 1))) (at 5 (n ∷ []))) (e .bounds _ b) (e .weights _ _ b (c .agents n h)))
+          let weighs : ℕ → ℕ → Claim → Verdict = λ bound w x. test (ltb bound (w * (x .most + 1))) (at 5 (n ∷ [])) in
+          let bound = ap (λ (x : Claim). (t .balance (x .balance)) .bound) (c .same n h) ∙ e .bounds _ (c .balances n h) in
+          ap₂ (λ (x y : ℕ). weighs x y (t .claim n)) bound (least-alike n h) ∙ ap (weighs (balanceOf u n .bound) (leastWeight u n)) (c .same n h))
 
       pub verdict-alike : verdict a t ≡ verdict a u
       unfolding verdict

@@ -8,30 +8,34 @@ use mathlib.Core.Bool.{Bool, true, false, false≢true, true≢false}
 use mathlib.Core.List.{List, [], _∷_}
 use lib.Dec.{leb}
 use lib.ListN.{length, getD}
-use borrow.Author.Tests.{ltb-true}
+use borrow.Author.Tests.{ltb-true, lt-ltb}
 use Rattle.laws.specs.Search.{clear, hit, test, andThen}
-use Rattle.laws.proofs.Search.{and-split, test-clear, clear-test, hit-test, first-pass, first-here, first-clear, first-same, clear-andThen, hit-andThen}
+use Rattle.laws.proofs.Search.{implies, implied, same-test, clear-test, hit-test, first-pass, first-here, first-same, every-true, true-every}
+use Rattle.laws.proofs.Search.{clear-andThen, hit-andThen}
 use Rattle.wire.specs.Numbers.{u32At}
 use Rattle.wire.proofs.Laws.{u16-small}
 use Rattle.marks.specs.Marks.{marked}
 use Rattle.model.specs.Tree.{Array, Node, nodeAt, isAgent}
 use Rattle.model.specs.Nodes.{loadOf}
 use Rattle.model.specs.Formed.{WellFormed}
-use Rattle.model.specs.Rules.{Table, Broken, Verdict, at, check1, check2, arguments3, check3, balances4, check4, check5, verdict}
+use Rattle.model.specs.Rules.{Table, together, SetsAgree, Broken, Verdict, at, check1, check2, arguments3, check3, balances4, check4, check5, verdict}
 use Rattle.model.proofs.Tree.{agent-inside}
 use Rattle.model.proofs.Nodes.{load-at}
+use Rattle.model.proofs.Sets.{met-each, each-met}
 use Rattle.records.specs.declared.Trailer.{Trailer}
 use Rattle.records.specs.Record.{arrayOf}
 use Rattle.arrays.specs.File.{IsRead}
 use Rattle.layout.specs.declared.Sizes.{Sizes}
-use Rattle.layout.specs.Table.{balanceAt, claimAt, rowBit, tableOf, refusal21, IsTable}
+use Rattle.layout.specs.Table.{balanceAt, rowBit, tableOf, IsTable}
+use Rattle.layout.proofs.Laws.{claims-lie}
+use Rattle.claims.proofs.Laws.{claims-named, sets-agree}
 use Rattle.loads.specs.Loads.{loadIn, AllLoads}
 use Rattle.loads.proofs.Laws.{half-load}
 use Rattle.pairs.specs.declared.Place.the-variants.{At}
 use Rattle.pairs.specs.Pairs.{listTable, Weighed, atPair, pairsOf, placed}
 use Rattle.rules.specs.declared.Ruling.{Ruling}
 use Rattle.rules.specs.declared.Ruling.the-variants.{Held, Rule1, Rule2, Rule3, Rule4, Rule5}
-use Rattle.rules.specs.Ruling.{ruled, isHeld, ruleBelow, ownMarked, rootFits, claimHolds, ClaimsListed, AllListed, claimed}
+use Rattle.rules.specs.Ruling.{ruled, isHeld, ruleBelow, ownMarked, rootFits, claimHolds, setHolds, ClaimsListed, AllListed, claimed}
 use Rattle.rules.proofs.Alike.{Alike, load-alike, check3-alike, check4-alike, verdict-alike}
 
 -- ---- a loop passes place k, or stops there
@@ -111,9 +115,16 @@ module _ {f : List ℕ} {t : Trailer} {s : List ℕ} {z : Sizes} {rows loads bou
   pub rule-four : check4 a L ≡ check4 a (claimed L s z)
   rule-four = check4-alike a (all .read .formed) L (claimed L s z) same
 
-  pub rule-five : ruleBelow (z .claims) 5 (λ c. claimHolds s loads bounds (claimAt z c)) ≡ check5 a (claimed L s z)
-  unfolding check5
-  rule-five = refl
+  -- a set is met where each of its claims holds alone
+  pub rule-five : ruleBelow (z .claims) 5 (setHolds (tableOf s z) (λ e. claimHolds loads bounds (tableOf s z .claim e))) ≡ check5 a (claimed L s z)
+  unfolding check5 together
+  rule-five =
+      let agree : SetsAgree (claimed L s z) = all .sets in
+      first-same (z .claims) _ _ (λ c h.
+      ap (λ (b : Bool). test b (at 5 (c ∷ [])))
+      (same-test _ _
+      (λ e. lt-ltb _ _ (each-met (claimed L s z) agree c h (λ d k g. ltb-true _ _ (implies _ _ (every-true (z .claims) _ e d k) g))))
+      (λ e. true-every (z .claims) _ (λ d k. implied _ _ (λ g. lt-ltb _ _ (met-each (claimed L s z) agree c h (ltb-true _ _ e) d k g))))))
 
 -- ---- the lists of two files that were read
 
@@ -154,25 +165,19 @@ module _ (f : List ℕ) (t : Trailer) (s : List ℕ) (z : Sizes) (read : IsRead 
 
   -- a claim names an agent and a balance
   named : (c : ℕ) → c < z .claims → (isAgent (nodeAt b (T .claim c .agent)) ≡ true) × (T .claim c .balance < z .balances)
-  unfolding refusal21
-  named c h =
-      let p = and-split _ _ (and-split _ _ (test-clear _ _ (first-clear (z .claims) _ (table .claims) c h)) .0) in
-      (p .0, ltb-true _ (z .balances) (p .1))
+  named = claims-named b T (table .claims)
 
   claims : ClaimsListed s z loads bounds
   claims =
       let l = table .laid in
       record {
-        nodes = omega (arith, l .nodes, ok .fewNodes);
-        names = omega (arith, l .names, ok .fewNames);
-        balances = l .fewBalances;
-        few = l .fewClaims;
+        lie = claims-lie t s z (ok .fewNodes) (ok .fewNames) l;
         listed = λ c h.
             let n = named c h in
             record {
-              inside = omega (arith, l .fills);
               bound = omega (arith, n .1, l .fewBalances, manyBounds);
               weight = weighed .half _ (agent-inside b _ (n .0)) _ (n .1);
+              most = u16-small s bytes _;
             };
       }
 
@@ -182,6 +187,7 @@ module _ (f : List ℕ) (t : Trailer) (s : List ℕ) (z : Sizes) (read : IsRead 
     lists = record { few = table .laid .fewBalances; manyRows = manyRows; manyBounds = manyBounds };
     weighed = weighed;
     claims = claims;
+    sets = sets-agree T (table .sets);
   }
 
   -- the verdict over the lists is that over the table of the bytes

@@ -1,19 +1,20 @@
 -- What the checker's rules answer: 01's number and place figures for each case. Rules 1, 2 and 5 by the checker's own lists.
 use Prim.Native.Nat.{ℕ, _+_, _*_, _≤_, _<_}
+use mathlib.Core.Path.{_≡_}
 use mathlib.Core.Bool.{Bool, true, false, not, _||_}
 use mathlib.Core.List.{List, [], _∷_}
 use lib.Dec.{leb, ltb}
 use lib.ListN.{length, getD}
-use Rattle.laws.specs.Search.{clear, hit, test, andThen, first}
-use Rattle.wire.specs.Numbers.{u16At}
+use Rattle.laws.specs.Search.{clear, hit, test, andThen, first, every}
 use Rattle.marks.specs.Marks.{marked}
 use Rattle.model.specs.Tree.{Array, isNew}
-use Rattle.model.specs.Rules.{Table, Verdict, at, check3, check4, check5}
+use Rattle.model.specs.declared.Claim.{Claim}
+use Rattle.model.specs.Rules.{Table, together, SetsAgree, Verdict, at, check3, check4, check5}
 use Rattle.records.specs.declared.Trailer.{Trailer}
 use Rattle.records.specs.Record.{arrayOf}
 use Rattle.arrays.specs.File.{IsRead}
 use Rattle.layout.specs.declared.Sizes.{Sizes}
-use Rattle.layout.specs.Table.{claimAt, tableOf}
+use Rattle.layout.specs.Table.{tableOf, ClaimsLie}
 use Rattle.loads.specs.Loads.{loadIn, Half}
 use Rattle.pairs.specs.Pairs.{Lists, Weighed}
 use Rattle.rules.specs.declared.Ruling.{Ruling}
@@ -53,23 +54,29 @@ ownMarked a rows o = not (isNew a o) || marked rows o o
 abbrev pub rootFits : List ℕ → List ℕ → ℕ → Bool
 rootFits loads bounds k = leb (loadIn loads 0 k) (getD bounds k 0)
 
--- the weight × (most + 1) of the claim at `at` exceeds the bound of its balance
-abbrev pub claimHolds : List ℕ → List ℕ → List ℕ → ℕ → Bool
-claimHolds s loads bounds at =
-    ltb (getD bounds (u16At s (at + 4)) 0) (loadIn loads (u16At s at) (u16At s (at + 4)) * (u16At s (at + 2) + 1))
+-- a claim alone: its agent's weight × (most + 1) exceeds the bound of its balance
+abbrev pub claimHolds : List ℕ → List ℕ → Claim → Bool
+claimHolds loads bounds x = ltb (getD bounds (x .balance) 0) (loadIn loads (x .agent) (x .balance) * (x .most + 1))
 
--- the claim lies in the table, and its balance and its agent have entries in the lists
-pub record ClaimListed (s loads bounds : List ℕ) (at : ℕ) : Type 0 where
-  pub inside : at + 5 < length s
-  pub bound : u16At s (at + 4) < length bounds
-  pub weight : Half loads (u16At s at) (u16At s (at + 4))
+-- each claim of claim c's set holds alone. Where sets agree (30), that is rule 5 of the set (model/proofs/Sets).
+abbrev pub setHolds : Table → (ℕ → Bool) → ℕ → Bool
+setHolds t holds c = every (t .claims) λ d. not (together t c d) || holds d
+
+-- of the claims below d, none of the set of a claim before `place` fails; and where `place` is a claim, one of its set does
+pub record Unmet (t : Table) (holds : ℕ → Bool) (d place : ℕ) : Type 0 where
+  pub few : place ≤ t .claims
+  pub passes : (c : ℕ) → c < place → (e : ℕ) → e < d → together t c e ≡ true → holds e ≡ true
+  pub fails : place < t .claims → (e : ℕ) × (e < d) × (together t place e ≡ true) × (holds e ≡ false)
+
+-- the claim's balance and agent have entries in the lists
+pub record ClaimListed (loads bounds : List ℕ) (x : Claim) : Type 0 where
+  pub bound : x .balance < length bounds
+  pub weight : Half loads (x .agent) (x .balance)
+  pub most : x .most < 65536
 
 pub record ClaimsListed (s : List ℕ) (z : Sizes) (loads bounds : List ℕ) : Type 0 where
-  pub nodes : z .nodes ≤ 1024
-  pub names : z .names ≤ 256
-  pub balances : z .balances ≤ 24
-  pub few : z .claims ≤ 256
-  pub listed : (c : ℕ) → c < z .claims → ClaimListed s loads bounds (claimAt z c)
+  pub lie : ClaimsLie s z
+  pub listed : (c : ℕ) → c < z .claims → ClaimListed loads bounds (tableOf s z .claim c)
 
 -- ---- all rules: over a file that was read, lists that stand for a table, and the claims of a table file
 
@@ -78,6 +85,7 @@ pub record AllListed (f : List ℕ) (t : Trailer) (s : List ℕ) (z : Sizes) (ro
   pub lists : Lists (z .balances) rows bounds
   pub weighed : Weighed loads (arrayOf f t) (z .balances)
   pub claims : ClaimsListed s z loads bounds
+  pub sets : SetsAgree (tableOf s z)
 
 -- a table with the claims of the file
 abbrev pub claimed : Table → List ℕ → Sizes → Table

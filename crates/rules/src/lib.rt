@@ -1,9 +1,9 @@
 // The five rules in number order, over an array file and a table file that were read.
 // Promises the model's verdict over the array and the table that the bytes stand for. Depends on pairs (rules 3 and 4), flows
-// and loads (the checker's own lists), layout, frees (the names that news open), arrays, records, marks, wire, model and laws.
+// and loads (the checker's own lists), claims (a set's first), layout, frees (the names that news open), arrays, records, marks, wire, model and laws.
 // The lists take 106,592 bytes of stack.
 ghost use mathlib.Core.Path.{_≡_};
-ghost use Prim.Native.Nat.{ℕ, _<_, _≤_};
+ghost use Prim.Native.Nat.{ℕ, _+_, _<_, _≤_};
 ghost use lib.ListN.{length, getD};
 ghost use Rattle.model.specs.Rules as M;
 ghost use Rattle.records.specs.Record.{arrayOf, RecordsFit};
@@ -11,8 +11,10 @@ ghost use Rattle.arrays.specs.File.{IsRead};
 ghost use Rattle.wire.specs.Numbers.{u32At};
 ghost use Rattle.layout.specs.Table.{balanceAt, claimAt, tableOf, IsTable};
 ghost use Rattle.pairs.specs.Pairs.{listTable, Lists, HalfRow, Weighed};
-ghost use Rattle.rules.specs.Ruling.{ruled, isHeld, from3, ruleBelow, ownMarked, rootFits, claimHolds, ClaimListed, ClaimsListed, AllListed, claimed};
+ghost use Rattle.rules.specs.Ruling.{ruled, isHeld, from3, ruleBelow, ownMarked, rootFits, claimHolds, setHolds, Unmet, ClaimListed, ClaimsListed};
+ghost use Rattle.rules.specs.Ruling.{AllListed, claimed};
 use layout::Sizes;
+use model::Claim;
 use pairs::Place;
 use records::Trailer;
 
@@ -107,29 +109,55 @@ fn fourth_rule(
     }
 }
 
-// The claim at `at` follows from its balance: its agent's weight × (most + 1) exceeds the bound.
-fn claim_holds(table: &[u8], loads: &[u32], bounds: &[u32], at: usize) -> bool
-    requires { ⌜ ClaimListed (now table) (now loads) (now bounds) at ⌝ }
-    ensures { λ b. ⌜ b ≡ claimHolds (now (table .entry)) (now (loads .entry)) (now (bounds .entry)) at ⌝ }
+// A claim alone follows from its balance: its agent's weight × (most + 1) exceeds the bound.
+fn claim_holds(x: Claim, loads: &[u32], bounds: &[u32]) -> bool
+    requires { ⌜ ClaimListed (now loads) (now bounds) x ⌝ }
+    ensures { λ b. ⌜ b ≡ claimHolds (now (loads .entry)) (now (bounds .entry)) x ⌝ }
 {
-    let agent = wire::u16_at(table, at);
-    let most = wire::u16_at(table, at + 2);
-    let balance = wire::u16_at(table, at + 4);
-    let weight = wire::word_long(loads::load_at(loads, agent, balance));
+    let balance = x.balance;
+    let most = x.most;
+    let weight = wire::word_long(loads::load_at(loads, x.agent, balance));
     wire::word_long(bounds[balance]) < weight * (most as u64 + 1)
 }
 
-// Rule 5.
+// The lowest claim of a set that is known not to be met, once claim d is looked at too. Q stands for none.
+fn unmet_with(
+    table: &[u8],
+    z: Sizes,
+    loads: &[u32],
+    bounds: &[u32],
+    place: usize,
+    d: usize,
+) -> usize
+    requires { ⌜ ClaimsListed (now table) z (now loads) (now bounds) × (d < z .claims) ⌝ }
+    requires { ⌜ Unmet (tableOf (now table) z) (λ e. claimHolds (now loads) (now bounds) (tableOf (now table) z .claim e)) d place ⌝ }
+    ensures { λ r. ⌜ Unmet (tableOf (now (table .entry)) z)
+        (λ e. claimHolds (now (loads .entry)) (now (bounds .entry)) (tableOf (now (table .entry)) z .claim e)) (d + 1) r ⌝ }
+{
+    if claim_holds(layout::read_claim(table, z, d), loads, bounds) {
+        return place;
+    }
+    let first = claims::first_of_set(table, z, d);
+    if first < place {
+        return first;
+    }
+    place
+}
+
+// Rule 5. A set is met where each of its claims holds alone, since they agree in most and balance (30).
 fn fifth_rule(table: &[u8], z: Sizes, loads: &[u32], bounds: &[u32]) -> Ruling
     requires { ⌜ ClaimsListed (now table) z (now loads) (now bounds) ⌝ }
-    ensures { λ r. ⌜ ruled r ≡ ruleBelow (z .claims) 5 (λ c. claimHolds (now (table .entry)) (now (loads .entry)) (now (bounds .entry)) (claimAt z c)) ⌝ }
+    ensures { λ r. ⌜ ruled r ≡ ruleBelow (z .claims) 5 (setHolds (tableOf (now (table .entry)) z)
+        (λ e. claimHolds (now (loads .entry)) (now (bounds .entry)) (tableOf (now (table .entry)) z .claim e))) ⌝ }
 {
-    let mut c: usize = 0;
-    while c < z.claims {
-        if !claim_holds(table, loads, bounds, layout::claim_at(z, c)) {
-            return Ruling::Rule5(c);
-        }
-        c += 1;
+    let mut place = z.claims;
+    let mut d: usize = 0;
+    while d < z.claims {
+        place = unmet_with(table, z, loads, bounds, place, d);
+        d += 1;
+    }
+    if place < z.claims {
+        return Ruling::Rule5(place);
     }
     Ruling::Held
 }

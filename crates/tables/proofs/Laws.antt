@@ -31,7 +31,7 @@ parts-fill s z e = eqb-true _ _ (and-split (startsFit s z) (eqb (claimAt z (z .c
 
 -- ---- a table that was read
 
--- refusals 13 to 21 found nothing
+-- refusals 13 to 21 and 30 found nothing
 pub passed-table : (f : List ℕ) (t : Trailer) (s : List ℕ) → tableRefusal f t s ≡ clear → IsTable f t s (sizesOf t s)
 passed-table f t s e =
     let s₁ = andThen-split _ _ e in
@@ -42,6 +42,7 @@ passed-table f t s e =
     let s₆ = andThen-split _ _ (s₅ .1) in
     let s₇ = andThen-split _ _ (s₆ .1) in
     let s₈ = andThen-split _ _ (s₇ .1) in
+    let s₉ = andThen-split _ _ (s₈ .1) in
     let counts = counts-fit (sizesOf t s) (test-clear _ _ (s₃ .0)) in
     record {
       laid = record {
@@ -53,7 +54,8 @@ passed-table f t s e =
       };
       rows = s₇ .0;
       weights = s₈ .0;
-      claims = s₈ .1;
+      claims = s₉ .0;
+      sets = s₉ .1;
     }
 
 -- ---- the answer, by the array's and the table's

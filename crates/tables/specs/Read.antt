@@ -1,4 +1,5 @@
--- The table reader: refusals 13 to 21 in checking order, after the array's, and its answers (01, "Refusals, in checking order").
+-- The table reader: refusals 13 to 21 and 30 in checking order, after the array's, and its answers (01, "Refusals, in checking order"; 02,
+-- request i: "30 .. checked after 21").
 use Prim.Native.Nat.{ℕ}
 use mathlib.Core.List.{List}
 use Rattle.laws.specs.Search.{Found, clear, hit, andThen}
@@ -7,11 +8,12 @@ use Rattle.records.specs.declared.Trailer.{Trailer}
 use Rattle.records.specs.Record.{arrayOf}
 use Rattle.arrays.specs.File.{arrayRefusal, trailerOf}
 use Rattle.layout.specs.declared.Sizes.{Sizes}
-use Rattle.layout.specs.Table.{sizesOf, refusal13, refusal14, refusal15, refusal16, refusal17, refusal18, refusal19, refusal20, refusal21}
+use Rattle.layout.specs.Table.{sizesOf, refusal13, refusal14, refusal15, refusal16, refusal17, refusal18, refusal19, refusal20}
+use Rattle.layout.specs.Table.{tableOf, refusal21, refusal30}
 use Rattle.tables.specs.declared.TableAnswer.{TableAnswer}
 use Rattle.tables.specs.declared.TableAnswer.the-variants.{Read, Refused}
 
--- refusals 13 to 21 of table s for the array file f whose trailer says t, in checking order
+-- refusals 13 to 21 and 30 of table s for the array file f whose trailer says t, in checking order
 abbrev pub tableRefusal : List ℕ → Trailer → List ℕ → Found F.Refusal
 tableRefusal f t s =
     let z = sizesOf t s in
@@ -22,7 +24,7 @@ tableRefusal f t s =
     (andThen (refusal17 s)
     (andThen (refusal18 t s)
     (andThen (refusal19 (arrayOf f t) s z)
-    (andThen (refusal20 (arrayOf f t) s z) (refusal21 (arrayOf f t) s z))))))))
+    (andThen (refusal20 (arrayOf f t) s z) (andThen (refusal21 (arrayOf f t) (tableOf s z)) (refusal30 (tableOf s z))))))))))
 
 -- "The array is checked before anything else in every call."
 abbrev pub filesRefusal : List ℕ → List ℕ → Found F.Refusal
@@ -37,8 +39,11 @@ readTable f s = sizesAnswer (filesRefusal f s) (sizesOf (trailerOf f) s)
 
 -- ---- the rest of the search, from a refusal on
 
+abbrev pub from21 : List ℕ → Trailer → List ℕ → Sizes → Found F.Refusal
+from21 f t s z = andThen (refusal21 (arrayOf f t) (tableOf s z)) (refusal30 (tableOf s z))
+
 abbrev pub from20 : List ℕ → Trailer → List ℕ → Sizes → Found F.Refusal
-from20 f t s z = andThen (refusal20 (arrayOf f t) s z) (refusal21 (arrayOf f t) s z)
+from20 f t s z = andThen (refusal20 (arrayOf f t) s z) (from21 f t s z)
 
 abbrev pub from18 : List ℕ → Trailer → List ℕ → Sizes → Found F.Refusal
 from18 f t s z = andThen (refusal18 t s) (andThen (refusal19 (arrayOf f t) s z) (from20 f t s z))

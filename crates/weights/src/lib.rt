@@ -1,12 +1,12 @@
-// Balances and claims: refusals 20 and 21.
-// Promises refusal20 and refusal21 of layout. Depends on layout, records, wire, model and laws.
+// Balances: refusal 20.
+// Promises refusal20 of layout. Depends on layout, records, wire, model and laws.
 ghost use mathlib.Core.Path.{_≡_};
 ghost use mathlib.Core.Bool.{_||_};
 ghost use Prim.Native.Nat.{_+_, _*_, _≤_, _%_};
 ghost use lib.ListN.{length};
 ghost use lib.Dec.{eqb};
 ghost use Rattle.records.specs.Record.{arrayOf, foundOf, RecordsFit};
-ghost use Rattle.layout.specs.Table.{weightAt, weightsFit, claimFits, refusal20, refusal21, Laid};
+ghost use Rattle.layout.specs.Table.{weightAt, weightsFit, refusal20, Laid};
 use layout::Sizes;
 use records::Check;
 use records::Refusal;
@@ -55,36 +55,6 @@ pub fn bad_balance(file: &[u8], t: Trailer, table: &[u8], z: Sizes) -> Check
             });
         }
         k += 1;
-    }
-    Check::Passed
-}
-
-// The claim at `at` names an agent and a balance, and ends with zero.
-fn claim_fits(file: &[u8], t: Trailer, table: &[u8], balances: usize, at: usize) -> bool
-    requires { ⌜ RecordsFit (now file) t × (at + 8 ≤ length (now table)) ⌝ }
-    ensures { λ b. ⌜ b ≡ claimFits (arrayOf (now (file .entry)) t) (now (table .entry)) balances at ⌝ }
-{
-    let agent = wire::u16_at(table, at);
-    let named = records::is_agent(records::node_or_stop(file, t, agent));
-    let balance = wire::u16_at(table, at + 4);
-    let last = wire::u16_at(table, at + 6);
-    named & (balance < balances) & (last == 0)
-}
-
-// Refusal 21.
-pub fn bad_claim(file: &[u8], t: Trailer, table: &[u8], z: Sizes) -> Check
-    requires { ⌜ RecordsFit (now file) t × (t .nodes ≤ 1024) × (t .names ≤ 256) × Laid t (now table) z ⌝ }
-    ensures { λ r. ⌜ foundOf r ≡ refusal21 (arrayOf (now (file .entry)) t) (now (table .entry)) z ⌝ }
-{
-    let mut c: usize = 0;
-    while c < z.claims {
-        if !claim_fits(file, t, table, z.balances, layout::claim_at(z, c)) {
-            return Check::Refused(Refusal {
-                number: 21,
-                place: c,
-            });
-        }
-        c += 1;
     }
     Check::Passed
 }

@@ -81,7 +81,7 @@ pub struct Parts {
     pub rows: Vec<Vec<usize>>,
     /// Per balance its bound, and the nodes with their weights.
     pub balances: Vec<(u32, Vec<(usize, u16)>)>,
-    /// Agent, most, balance, zero.
+    /// Agent, most, balance, set.
     pub claims: Vec<[u16; 4]>,
 }
 

@@ -2,3 +2,4 @@ mod build;
 mod cases;
 mod random;
 mod refusals;
+mod sets;

@@ -116,19 +116,77 @@ fn least_rows(array: &Array) -> Vec<Vec<usize>> {
     }
 }
 
-/// A table with least rows and random weights.
+/// The load of a node, from its kind.
+fn slow_load(array: &Array, weights: &[u32], at: usize) -> u32 {
+    let node = &array.nodes()[at];
+    let load = |child| slow_load(array, weights, child);
+    match node.kind {
+        Kind::Stop => 0,
+        Kind::New => load(node.left),
+        Kind::Par => load(node.left) + load(node.right),
+        Kind::Choice => load(node.left).max(load(node.right)),
+        _ => weights[at],
+    }
+}
+
+/// Raises weights of outs for rule 4, and gives the load of node 0. It stops
+/// after some rounds, so a few pairs may still break the rule.
+fn raise(array: &Array, rows: &[Vec<usize>], weights: &mut [u32]) -> u32 {
+    let nodes = array.nodes();
+    for _ in 0..4 {
+        for (p, input) in nodes.iter().enumerate().filter(|(_, node)| node.is_receiver()) {
+            for (q, output) in nodes.iter().enumerate().filter(|(_, node)| node.is_sender()) {
+                let share = rows[input.name].iter().any(|o| rows[output.name].contains(o));
+                if share && input.arity() == output.arity() {
+                    let comes = slow_load(array, weights, input.left) + slow_load(array, weights, output.left);
+                    let goes = if input.kind == Kind::In { weights[p] } else { 0 };
+                    weights[q] = weights[q].max(comes.saturating_sub(goes)).min(100);
+                }
+            }
+        }
+    }
+    slow_load(array, weights, 0)
+}
+
+/// A bound and random weights, half of the time raised to fit each other.
+fn random_balance(dice: &mut Dice, array: &Array, rows: &[Vec<usize>]) -> (u32, Vec<(usize, u16)>) {
+    let mut weights = vec![0; array.nodes().len()];
+    let rarely = 1 + dice.below(12);
+    for agent in (0..weights.len()).filter(|i| array.agent(*i).is_some()) {
+        if dice.below(rarely) == 0 {
+            weights[agent] = 1 + dice.below(2) as u32;
+        }
+    }
+    let mut bound = dice.below(6) as u32;
+    if dice.below(2) == 0 {
+        bound = raise(array, rows, &mut weights);
+    }
+    let weights = weights.iter().enumerate().filter(|(_, weight)| **weight > 0);
+    (bound, weights.map(|(agent, weight)| (agent, *weight as u16)).collect())
+}
+
+/// Adds the claims of one set, mostly of agents with a weight, and with the
+/// least `most` for one of them. An agent may be named more than once.
+fn add_set(dice: &mut Dice, agents: &[usize], set: u16, parts: &mut Parts) {
+    let balance = dice.below(parts.balances.len());
+    let (bound, weights) = &parts.balances[balance];
+    let mut picked = vec![(agents[dice.below(agents.len())], 1)];
+    if !weights.is_empty() && dice.below(4) > 0 {
+        let count = 1 + dice.below(3 * weights.len()).min(99);
+        picked = (0..count).map(|_| weights[dice.below(weights.len())]).collect();
+    }
+    let most = bound / u32::from(picked[dice.below(picked.len())].1);
+    let claim = |(agent, _): &(usize, u16)| [*agent as u16, most as u16, balance as u16, set];
+    parts.claims.extend(picked.iter().map(claim));
+}
+
+/// A table with least rows, random weights, and claims in any order.
 fn random_parts(dice: &mut Dice, array: &Array) -> Parts {
     let agents: Vec<usize> = (0..array.nodes().len()).filter(|i| array.agent(*i).is_some()).collect();
     let mut parts = Parts { rows: least_rows(array), ..Parts::default() };
     for _ in 0..dice.below(3) {
-        let rarely = 1 + dice.below(12);
-        let mut weights = vec![];
-        for agent in &agents {
-            if dice.below(rarely) == 0 {
-                weights.push((*agent, 1 + dice.below(2) as u16));
-            }
-        }
-        parts.balances.push((dice.below(6) as u32, weights));
+        let balance = random_balance(dice, array, &parts.rows);
+        parts.balances.push(balance);
     }
     if !agents.is_empty() && !parts.balances.is_empty() {
         for _ in 0..dice.below(2) {
@@ -136,8 +194,33 @@ fn random_parts(dice: &mut Dice, array: &Array) -> Parts {
             let balance = dice.below(parts.balances.len()) as u16;
             parts.claims.push([agent, dice.below(4) as u16, balance, 0]);
         }
+        for set in [256, 1].into_iter().take(dice.below(3)) {
+            add_set(dice, &agents, set, &mut parts);
+        }
+        for i in 1..parts.claims.len() {
+            parts.claims.swap(i, dice.below(i + 1));
+        }
     }
     parts
+}
+
+/// Whether two claims, by their places, stand for one set or are the same claim.
+fn one_set(claims: &[[u16; 4]], i: usize, j: usize) -> bool {
+    i == j || claims[i][3] != 0 && claims[i][3] == claims[j][3]
+}
+
+/// The threads that a claim's set speaks of, each thread counted once.
+fn spoken_of(claims: &[[u16; 4]], i: usize, configuration: &Configuration) -> usize {
+    let named = |node| (0..claims.len()).any(|j| one_set(claims, i, j) && usize::from(claims[j][0]) == node);
+    configuration.threads.iter().filter(|thread| named(thread.node)).count()
+}
+
+/// Whether a claim's set has as many threads as it may, and not all of one agent.
+fn is_shared(claims: &[[u16; 4]], i: usize, configuration: &Configuration) -> bool {
+    let agent = usize::from(claims[i][0]);
+    let own = configuration.threads.iter().filter(|thread| thread.node == agent).count();
+    let all = spoken_of(claims, i, configuration);
+    all == usize::from(claims[i][1]) && 0 < own && own < all
 }
 
 /// The configuration that lent lists stand for.
@@ -323,8 +406,8 @@ fn a_walk_is_its_strides() {
 #[test]
 fn accepted_tables_are_safe() {
     let mut dice = Dice(3);
-    let (mut accepted, mut steps) = (0, 0);
-    for _ in 0..4000 {
+    let (mut accepted, mut steps, mut shared) = (0, 0, 0);
+    for _ in 0..12_000 {
         let (file, _) = random_array(&mut dice, 40);
         let array = read_array(&file).unwrap();
         let parts = random_parts(&mut dice, &array);
@@ -345,16 +428,107 @@ fn accepted_tables_are_safe() {
                 configuration = next;
                 steps += 1;
                 assert!(safe(&array, &table, &configuration));
+                let claims = &parts.claims;
+                shared += (0..claims.len()).filter(|i| is_shared(claims, *i, &configuration)).count();
             }
         }
     }
-    assert!(accepted > 100 && steps > 200, "{accepted} {steps}");
+    assert!(accepted > 100 && steps > 200 && shared > 50, "{accepted} {steps} {shared}");
+}
+
+#[test]
+fn safe_counts_the_threads_of_a_set() {
+    let mut dice = Dice(6);
+    let mut answers = [0; 2];
+    for _ in 0..600 {
+        let (file, names) = random_array(&mut dice, 60);
+        let array = read_array(&file).unwrap();
+        // Rows and bounds that always hold.
+        let mut parts = random_parts(&mut dice, &array);
+        parts.rows = vec![array.opened().iter().collect(); names];
+        parts.balances.iter_mut().for_each(|balance| balance.0 = u32::MAX);
+        let claims = &parts.claims;
+        let table = read_table(&file, &table(&file, &parts)).unwrap();
+        let mut configuration = begin(&array, &|_| false);
+        for _ in 0..20 {
+            let holds = |i| spoken_of(claims, i, &configuration) <= usize::from(claims[i][1]);
+            let expected = (0..claims.len()).all(holds);
+            assert_eq!(safe(&array, &table, &configuration), expected);
+            answers[usize::from(expected)] += 1;
+            let choices = dice.choices();
+            let (receiver, sender) = random_pair(&mut dice, &array, &configuration);
+            if let Ok(next) = attempt(&array, &configuration, receiver, sender, &|node| bit(&choices, node)) {
+                configuration = next;
+            }
+        }
+    }
+    assert!(answers.iter().all(|count| *count > 500), "{answers:?}");
+}
+
+/// Refusals 21 and 30 and rule 5 for array A, claim by claim. Agent 3 has no weight.
+fn slow_claims(claims: &[[u16; 4]], balances: &[(u32, Vec<(usize, u16)>)]) -> Option<(u8, usize)> {
+    let places = 0..claims.len();
+    let is_wrong = |i: &usize| !matches!(claims[*i][0], 3 | 5 | 6) || usize::from(claims[*i][2]) >= balances.len();
+    if let Some(place) = places.clone().find(is_wrong) {
+        return Some((21, place));
+    }
+    let differs = |i: &usize| (0..*i).any(|j| one_set(claims, *i, j) && claims[*i][1..3] != claims[j][1..3]);
+    if let Some(place) = places.clone().find(differs) {
+        return Some((30, place));
+    }
+    // A set's least weight will do if each of its weights will do.
+    let fails = |j: usize| {
+        let (bound, weights) = &balances[usize::from(claims[j][2])];
+        let weight = weights.iter().find(|(agent, _)| *agent == usize::from(claims[j][0])).map_or(0, |pair| pair.1);
+        u64::from(weight) * (u64::from(claims[j][1]) + 1) <= u64::from(*bound)
+    };
+    let in_failing_set = |i: &usize| places.clone().any(|j| one_set(claims, *i, j) && fails(j));
+    places.clone().find(in_failing_set).map(|place| (5, place))
+}
+
+#[test]
+fn claims_are_judged_by_sets() {
+    let mut dice = Dice(7);
+    let a = array_a();
+    let mut found = BTreeMap::new();
+    for _ in 0..20_000 {
+        let mut parts = parts_a();
+        parts.balances = vec![(5, vec![(5, 5), (6, 2)]), (1, vec![(5, 1), (6, 1)])];
+        let rarely = 3 + dice.below(30);
+        let mut sets = [0, 1, 256, 65_535].map(|set| [0, dice.below(4) as u16, dice.below(2) as u16, set]);
+        parts.claims.clear();
+        for _ in 0..dice.below(8) {
+            sets[0][1] = dice.below(4) as u16;
+            let mut claim = sets[dice.below(4)];
+            claim[0] = 5 + dice.below(2) as u16;
+            match dice.below(rarely) {
+                0 => claim[dice.below(3)] = dice.below(4) as u16,
+                1 => claim[1 + dice.below(2)] = dice.below(2) as u16,
+                2 => claim[0] = 3,
+                _ => {}
+            }
+            parts.claims.push(claim);
+        }
+        let expected = slow_claims(&parts.claims, &parts.balances);
+        match (check(&a, &table(&a, &parts)), expected) {
+            (Verdict::Refused(refusal), Some((number, place))) => {
+                assert_eq!((refusal.number, refusal.place), (number, place), "{:?}", parts.claims)
+            }
+            (Verdict::Rule { number, place }, Some((5, first))) => {
+                assert_eq!((number, place), (5, vec![first]), "{:?}", parts.claims)
+            }
+            (Verdict::Held { .. }, None) => {}
+            (verdict, expected) => panic!("{verdict:?} {expected:?} {:?}", parts.claims),
+        }
+        *found.entry(expected.map_or(0, |answer| answer.0)).or_insert(0) += 1;
+    }
+    assert!(found.len() == 4 && found.values().all(|count| *count > 1000), "{found:?}");
 }
 
 #[test]
 fn spoiled_files_are_refused_or_read() {
     let mut dice = Dice(4);
-    let mut numbers = [0; 30];
+    let mut numbers = [0; 31];
     for round in 0..20_000 {
         let (mut file, names) = random_array(&mut dice, 24);
         let mut bytes = match read_array(&file) {
@@ -394,6 +568,7 @@ fn spoiled_files_are_refused_or_read() {
         let _ = walk(&file, &choices, &mut threads, thread_count, &mut markers, marker_count, 9);
     }
     assert!(numbers[..=27].iter().filter(|count| **count > 0).count() > 20, "{numbers:?}");
+    assert!(numbers[30] > 0, "{numbers:?}");
 }
 
 /// Refusal 12 by going up the tree from each node.

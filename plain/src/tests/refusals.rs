@@ -209,11 +209,62 @@ fn refusals_19_to_21() {
     let b = array_b();
     let parts = one_row(0, &[(7, 1)]);
     assert_eq!(table_refusal(&b, &table(&b, &parts)), (20, 0));
-    for claim in [[4, 1, 0, 0], [8, 1, 0, 0], [65_535, 1, 0, 0], [6, 1, 1, 0], [6, 1, 0, 1]] {
+    for claim in [[4, 1, 0, 0], [8, 1, 0, 0], [65_535, 1, 0, 0], [6, 1, 1, 0], [4, 1, 0, 1], [6, 1, 1, 1]] {
         let mut parts = parts_a();
         parts.claims.push(claim);
         assert_eq!(table_refusal(&a, &table(&a, &parts)), (21, 1));
     }
+    for set in [0, 1, 255, 256, 65_535] {
+        let mut parts = parts_a();
+        parts.claims.push([5, 1, 0, set]);
+        let read = read_table(&a, &table(&a, &parts)).unwrap();
+        assert_eq!(read.claims()[1], Claim { agent: 5, most: 1, balance: 0, set });
+    }
+}
+
+/// Array A and two equal balances with some claims.
+fn a_claims(claims: &[[u16; 4]]) -> (u8, usize) {
+    let mut parts = parts_a();
+    parts.balances.push(parts.balances[0].clone());
+    parts.claims = claims.to_vec();
+    let a = array_a();
+    table_refusal(&a, &table(&a, &parts))
+}
+
+#[test]
+fn refusal_30() {
+    // By most, by balance, by both.
+    assert_eq!(a_claims(&[[5, 1, 0, 7], [6, 2, 0, 7]]), (30, 1));
+    assert_eq!(a_claims(&[[5, 2, 0, 7], [6, 1, 0, 7]]), (30, 1));
+    assert_eq!(a_claims(&[[5, 1, 0, 7], [6, 257, 0, 7]]), (30, 1));
+    assert_eq!(a_claims(&[[5, 1, 0, 7], [6, 1, 1, 7]]), (30, 1));
+    assert_eq!(a_claims(&[[5, 1, 1, 7], [6, 1, 0, 7]]), (30, 1));
+    assert_eq!(a_claims(&[[5, 1, 0, 7], [6, 2, 1, 7]]), (30, 1));
+    // Also where both name one agent.
+    assert_eq!(a_claims(&[[6, 1, 0, 7], [6, 2, 0, 7]]), (30, 1));
+    // Claims apart, and a third one that agrees with either.
+    assert_eq!(a_claims(&[[5, 1, 0, 7], [5, 1, 0, 0], [6, 2, 0, 7]]), (30, 2));
+    assert_eq!(a_claims(&[[5, 1, 0, 7], [6, 1, 0, 7], [6, 2, 0, 7]]), (30, 2));
+    assert_eq!(a_claims(&[[5, 1, 0, 7], [6, 2, 0, 7], [6, 1, 0, 7]]), (30, 1));
+    assert_eq!(a_claims(&[[5, 1, 0, 7], [6, 2, 0, 7], [6, 2, 0, 7]]), (30, 1));
+    // Of two sets the lower of the later claims.
+    assert_eq!(a_claims(&[[5, 1, 0, 7], [5, 1, 0, 8], [6, 2, 0, 8], [6, 2, 0, 7]]), (30, 2));
+    assert_eq!(a_claims(&[[5, 1, 0, 8], [5, 1, 0, 7], [6, 1, 1, 7], [6, 2, 0, 8]]), (30, 2));
+}
+
+#[test]
+fn refusal_30_goes_after_21_and_before_the_rules() {
+    assert_eq!(a_claims(&[[5, 1, 0, 7], [6, 2, 0, 7], [4, 1, 0, 0]]), (21, 2));
+    assert_eq!(a_claims(&[[5, 1, 0, 7], [6, 2, 0, 7], [6, 1, 2, 7]]), (21, 2));
+    assert_eq!(a_claims(&[[5, 1, 0, 7], [8, 2, 0, 7]]), (21, 1));
+    assert_eq!(a_claims(&[[5, 1, 0, 7], [6, 1, 2, 7]]), (21, 1));
+    // Claim 0 breaks rule 5, and row 1 rule 1.
+    assert_eq!(a_claims(&[[3, 1, 0, 0], [5, 1, 0, 7], [6, 2, 0, 7]]), (30, 2));
+    let a = array_a();
+    let mut parts = parts_a();
+    parts.rows[1].clear();
+    parts.claims = vec![[5, 1, 0, 7], [6, 2, 0, 7]];
+    assert_eq!(table_refusal(&a, &table(&a, &parts)), (30, 1));
 }
 
 #[test]

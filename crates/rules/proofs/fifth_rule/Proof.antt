@@ -1,55 +1,49 @@
--- The loop's invariant: the test by the lists finds nothing at the claims passed.
+-- The loop's invariant: `place` is the lowest claim of a set in which a claim passed fails, or Q where none does (Unmet).
 use Prim.Native.Nat.{_≤_, _-_}
-use mathlib.Core.Path.{_≡_, sym, ap, _∙_}
+use mathlib.Core.Path.{_≡_, sym}
 use denote.Ref.{now}
-use borrow.Author.Tests.{not-true, not-false}
-use Rattle.laws.specs.Search.{clear}
-use Rattle.laws.proofs.Search.{first-zero}
-use Rattle.layout.specs.Table.{claimAt}
-use Rattle.rules.specs.Ruling.{ruleBelow, claimHolds}
-use Rattle.rules.proofs.Laws.{rule-passes, rule-stops}
+use Rattle.layout.specs.Table.{tableOf}
+use Rattle.rules.specs.Ruling.{claimHolds, Unmet}
+use Rattle.rules.proofs.Unmet.{unmet-begin, unmet-hit, unmet-clear}
 use borrow.Author.Needs.{needs}
 use native.Mathlib.Omega.{arith}
 use Rattle.rules.proofs.fifth_rule.Statement.{statement}
 use Rattle.rules.proofs.fifth_rule.Tie as tie
 
 abbrev Inv-loop : tie.InvT-loop
-Inv-loop table z loads bounds c₀ c =
-    (c ≤ z .claims) × (ruleBelow c 5 (λ k. claimHolds table loads bounds (claimAt z k)) ≡ clear)
+Inv-loop table z loads bounds place₀ d₀ place d =
+    (d ≤ z .claims) × Unmet (tableOf table z) (λ e. claimHolds loads bounds (tableOf table z .claim e)) d place
 
 abbrev μ-loop : tie.MeasureT-loop
-μ-loop table z loads bounds c₀ c = z .claims - c
-
--- what the test of a claim says
-tested : (c : tie.After-claim-holds Inv-loop μ-loop) → let l = c .before .before .before .before in let x = l .before .before .before .before .args in
-    claimHolds (now (x .table)) (now (x .loads)) (now (x .bounds)) (claimAt (x .z) (l .loop .c)) ≡ c .claim-holds .result
-tested c =
-    let x = c .before .before .before .before .before .before .before .before .args in
-    sym (c .claim-holds .ensures ∙ ap (claimHolds (now (x .table)) (now (x .loads)) (now (x .bounds))) (c .before .claim-at .ensures))
+μ-loop table z loads bounds place₀ d₀ place d = z .claims - d
 
 loop-holds : tie.Need-loop-holds Inv-loop μ-loop
-loop-holds c = (omega arith, first-zero _)
+loop-holds c = (omega arith, unmet-begin _ _)
 
-claim-holds-requires : tie.Need-claim-holds-requires Inv-loop μ-loop
-claim-holds-requires c κs = rw (c .claim-at .ensures) (c .before .before .before .before .before .before .before .pre .listed _ (c .before .if1 .taken))
-
-returns : tie.Need-returns Inv-loop μ-loop
-returns c =
-    let l = c .before .before .before .before .before .loop in
-    sym (rule-stops 5 _ (l .c) (l .inv .1) _ (c .before .before .before .if1 .taken) (tested (c .before) ∙ not-true _ (c .if2 .taken)))
+unmet-with-requires : tie.Need-unmet-with-requires Inv-loop μ-loop
+unmet-with-requires c κs = ((c .before .before .before .before .before .before .pre, c .if1 .taken), c .before .before .loop .inv .1)
 
 loop-again : tie.Need-loop-again Inv-loop μ-loop
-loop-again c =
-    let l = c .before .before .before .before .before .loop in
-    (omega arith, rule-passes 5 _ (l .c) (l .inv .1) (tested (c .before) ∙ not-false _ (c .if2 .left)))
+loop-again c = (omega arith, c .unmet-with .ensures)
+
+-- every claim was passed
+whole : (c : tie.Else1 Inv-loop μ-loop) → let x = c .before .before .before .before .before .before .args in let l = c .before .before .loop in
+    Unmet (tableOf (now (x .table)) (x .z)) (λ e. claimHolds (now (x .loads)) (now (x .bounds)) (tableOf (now (x .table)) (x .z) .claim e)) (x .z .claims)
+    (l .place)
+whole c =
+    let x = c .before .before .before .before .before .before .args in
+    let l = c .before .before .loop in
+    let e : l .d ≡ x .z .claims = omega arith in
+    rw e at (l .inv .1)
+
+returns : tie.Need-returns Inv-loop μ-loop
+returns c = sym (unmet-hit _ _ _ (whole (c .before .before)) (c .if2 .taken))
 
 returns-2 : tie.Need-returns-2 Inv-loop μ-loop
-returns-2 c =
-    let e : c .before .before .loop .c ≡ c .before .before .before .before .before .before .args .z .claims = omega arith in
-    sym (rw e at (c .before .before .loop .inv .1))
+returns-2 c = sym (unmet-clear _ _ _ (whole (c .before .before)) (c .if2 .left))
 
 pub fifth-rule-spec : {M : Type 1} → statement M
 fifth-rule-spec =
     tie.close
     (tie.spec
-    Inv-loop μ-loop loop-holds (λ c κs. search needs) claim-holds-requires returns (λ c. search needs) (λ c. search needs) loop-again returns-2)
+    Inv-loop μ-loop loop-holds unmet-with-requires (λ c. search needs) (λ c. search needs) loop-again returns returns-2)

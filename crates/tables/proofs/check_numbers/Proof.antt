@@ -1,4 +1,4 @@
--- Refusal 20, and 21 where it passes.
+-- Refusal 20, and 21 and 30 where it passes.
 use Rattle.records.proofs.Checks.{refuses, goes-on, passes}
 use borrow.Author.Needs.{needs}
 use Rattle.tables.proofs.check_numbers.Statement.{statement}
@@ -12,7 +12,7 @@ returns c =
 returns-2 : tie.Need-returns-2
 returns-2 c =
     goes-on _ _ (passes (c .before .before .before .bad-balance .result) (c .before .before .before .bad-balance .ensures)
-    (c .before .enum-told .given .1)) (c .bad-claim .ensures)
+    (c .before .enum-told .given .1)) (c .check-claims .ensures)
 
 pub check-numbers-spec : {M : Type 1} → statement M
 check-numbers-spec =

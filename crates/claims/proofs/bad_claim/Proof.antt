@@ -6,15 +6,15 @@ use Rattle.laws.specs.Search.{first, clear}
 use Rattle.laws.proofs.Search.{clear-test, hit-test, first-zero, first-pass, first-here}
 use Rattle.model.specs.Formed.{refuse}
 use Rattle.records.specs.Record.{arrayOf}
-use Rattle.layout.specs.Table.{claimAt, claimFits, refusal21}
+use Rattle.layout.specs.Table.{tableOf, claimFits, refusal21}
 use borrow.Author.Needs.{needs}
 use native.Mathlib.Omega.{arith}
-use Rattle.weights.proofs.bad_claim.Statement.{statement}
-use Rattle.weights.proofs.bad_claim.Tie as tie
+use Rattle.claims.proofs.bad_claim.Statement.{statement}
+use Rattle.claims.proofs.bad_claim.Tie as tie
 
 abbrev Inv-loop : tie.InvT-loop
 Inv-loop file t table z c₀ c =
-    (c ≤ z .claims) × (first c (λ j. refuse 21 j (claimFits (arrayOf file t) table (z .balances) (claimAt z j))) ≡ clear)
+    (c ≤ z .claims) × (first c (λ j. refuse 21 j (claimFits (arrayOf file t) (z .balances) (tableOf table z .claim j))) ≡ clear)
 
 abbrev μ-loop : tie.MeasureT-loop
 μ-loop file t table z c₀ c = z .claims - c
@@ -26,13 +26,13 @@ returns : tie.Need-returns Inv-loop μ-loop
 unfolding refusal21
 returns c =
     let l = c .before .before .before .before .before .loop in
-    let tested = rw (c .before .claim-fits .ensures, c .before .before .claim-at .ensures) at (not-true (c .before .claim-fits .result) (c .if2 .taken)) in
+    let tested = rw (c .before .claim-fits .ensures, c .before .before .read-claim .ensures) at (not-true (c .before .claim-fits .result) (c .if2 .taken)) in
     sym (first-here _ _ _ _ (l .inv .1) (hit-test _ _ tested) (search needs))
 
 loop-again : tie.Need-loop-again Inv-loop μ-loop
 loop-again c =
     let l = c .before .before .before .before .before .loop in
-    let tested = rw (c .before .claim-fits .ensures, c .before .before .claim-at .ensures) at (not-false (c .before .claim-fits .result) (c .if2 .left)) in
+    let tested = rw (c .before .claim-fits .ensures, c .before .before .read-claim .ensures) at (not-false (c .before .claim-fits .result) (c .if2 .left)) in
     (search needs, first-pass _ _ (l .inv .1) (clear-test _ _ tested))
 
 returns-2 : tie.Need-returns-2 Inv-loop μ-loop

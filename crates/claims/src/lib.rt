@@ -1,0 +1,82 @@
+// Claims and their sets: refusals 21 and 30, and the first claim of a set.
+// Promises refusal21 and refusal30 of layout, and FirstOf. Depends on layout, records, wire, model and laws.
+ghost use mathlib.Core.Path.{_≡_};
+ghost use Prim.Native.Nat.{_<_};
+ghost use Rattle.records.specs.Record.{arrayOf, foundOf, RecordsFit};
+ghost use Rattle.layout.specs.Table.{tableOf, claimFits, agrees, refusal21, refusal30, ClaimsLie};
+ghost use Rattle.claims.specs.Sets.{FirstOf};
+use layout::Sizes;
+use model::Claim;
+use records::Check;
+use records::Refusal;
+use records::Trailer;
+
+// A claim names an agent and a balance.
+fn claim_fits(file: &[u8], t: Trailer, balances: usize, x: Claim) -> bool
+    requires { ⌜ RecordsFit (now file) t ⌝ }
+    ensures { λ b. ⌜ b ≡ claimFits (arrayOf (now (file .entry)) t) balances x ⌝ }
+{
+    records::is_agent(records::node_or_stop(file, t, x.agent)) & (x.balance < balances)
+}
+
+// Refusal 21.
+pub fn bad_claim(file: &[u8], t: Trailer, table: &[u8], z: Sizes) -> Check
+    requires { ⌜ RecordsFit (now file) t × ClaimsLie (now table) z ⌝ }
+    ensures { λ r. ⌜ foundOf r ≡ refusal21 (arrayOf (now (file .entry)) t) (tableOf (now (table .entry)) z) ⌝ }
+{
+    let mut c: usize = 0;
+    while c < z.claims {
+        if !claim_fits(file, t, z.balances, layout::read_claim(table, z, c)) {
+            return Check::Refused(Refusal {
+                number: 21,
+                place: c,
+            });
+        }
+        c += 1;
+    }
+    Check::Passed
+}
+
+// The first claim of claim c's set. The search ends at c itself.
+pub fn first_of_set(table: &[u8], z: Sizes, c: usize) -> usize
+    requires { ⌜ ClaimsLie (now table) z × (c < z .claims) ⌝ }
+    ensures { λ d. ⌜ FirstOf (tableOf (now (table .entry)) z) c d ⌝ }
+{
+    let set = layout::read_claim(table, z, c).set;
+    if set == 0 {
+        return c;
+    }
+    let mut d: usize = 0;
+    while layout::read_claim(table, z, d).set != set {
+        d += 1;
+    }
+    d
+}
+
+// Two claims agree in most and in balance.
+fn claims_agree(x: Claim, y: Claim) -> bool
+    ensures { λ b. ⌜ b ≡ agrees x y ⌝ }
+{
+    (x.most == y.most) & (x.balance == y.balance)
+}
+
+// Refusal 30. A claim that agrees with its set's first agrees with all of the set before it, since these were passed.
+pub fn bad_set(table: &[u8], z: Sizes) -> Check
+    requires { ⌜ ClaimsLie (now table) z ⌝ }
+    ensures { λ r. ⌜ foundOf r ≡ refusal30 (tableOf (now (table .entry)) z) ⌝ }
+{
+    let mut later: usize = 0;
+    while later < z.claims {
+        let first = first_of_set(table, z, later);
+        let x = layout::read_claim(table, z, later);
+        let y = layout::read_claim(table, z, first);
+        if !claims_agree(x, y) {
+            return Check::Refused(Refusal {
+                number: 30,
+                place: later,
+            });
+        }
+        later += 1;
+    }
+    Check::Passed
+}
