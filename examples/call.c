@@ -38,7 +38,7 @@ static int say(uint64_t answer)
     case 2: printf("rule 2: the start exceeds balance %u\n", first); break;
     case 3: printf("rule 3: agent %u may receive argument %u from agent %u, and its row does not allow it\n", first, third, second); break;
     case 4: printf("rule 4: when agent %u receives from agent %u, balance %u may rise\n", first, second, third); break;
-    case 5: printf("rule 5: claim %u does not follow from its balance\n", first); break;
+    case 5: printf("rule 5: claim %u, or its set, does not follow from its balance\n", first); break;
     default: printf("refused: number %u, place %u\n", code - 100, first); break;
     }
     return code == 0 ? 0 : code < 100 ? 1 : 2;

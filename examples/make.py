@@ -8,7 +8,7 @@ A design has the scope paper's notation, a line for each thing, with a word for 
     nodes     3 out hand [moored] to 4 | hands out the moored clock       (also: new, par 3, 5, choice 3, 5, in, resource, stop)
     rows      tfix {towed}
     balances  bound 1, w5 = w6 = 1, w7 = 2 | the receiver
-    claims    6 most 1 in 0
+    claims    6 most 1 in 0                                               (of a set: 6 most 1 in 0 set 3)
 """
 import os
 import re
@@ -62,6 +62,11 @@ def balance_of(text, nodes):
     return balance(int(bound.split()[1]), weights, nodes)
 
 
+def claim_of(text):
+    """6 most 1 in 0, or 6 most 1 in 0 set 3"""
+    return claim(*map(int, re.fullmatch(r"(\d+) most (\d+) in (\d+)(?: set (\d+))?", text).groups(default=0)))
+
+
 def table_of(array, parts, number):
     rows = [b""] * len(number)
     for text, _ in parts["rows"]:
@@ -69,8 +74,7 @@ def table_of(array, parts, number):
         rows[number[name]] = row(*(number[word] for word in words_in(openings)))
     assert all(rows), "a name without a row"
     balances = [balance_of(text, len(parts["nodes"])) for text, _ in parts["balances"]]
-    claims = [claim(*map(int, re.fullmatch(r"(\d+) most (\d+) in (\d+)", text).groups())) for text, _ in parts["claims"]]
-    return pic(array, rows, balances, claims)
+    return pic(array, rows, balances, [claim_of(text) for text, _ in parts["claims"]])
 
 
 def labels_of(parts):

@@ -46,12 +46,12 @@ def read_array(data):
 
 
 def read_table(data, m, n):
-    """Rows as sets of openings, balances as (bound, weights), claims as (agent, most, balance)."""
+    """Rows as sets of openings, balances as (bound, weights), claims as (agent, most, balance, set)."""
     _, balances, claims, k, q = struct.unpack("<IIIHH", data[-28:-12])
     rows = [{o for o in range(256) if data[32 * v + o // 8] >> o % 8 & 1} for v in range(n)]
     size = 4 + 2 * (m + m % 2)
     found = [struct.unpack_from(f"<I{m}H", data, balances + size * i) for i in range(k)]
-    return rows, [(b[0], b[1:]) for b in found], [struct.unpack_from("<HHH", data, claims + 8 * i) for i in range(q)]
+    return rows, [(b[0], b[1:]) for b in found], [struct.unpack_from("<HHHH", data, claims + 8 * i) for i in range(q)]
 
 
 def read_labels(text):
@@ -136,8 +136,11 @@ class Picture:
                 yield f"  weight {weight}: " + " ".join(str(i) for i, w in enumerate(weights) if w == weight), "code", k == worst
         if self.claims:
             yield "claims", "head", False
-        for c, (agent, most, balance) in enumerate(self.claims):
-            yield f"  {agent} at most {most}, by balance {balance}", "code", self.rule == 5 and c == self.place[0]
+        for c, (agent, most, balance, of) in enumerate(self.claims):
+            alike = [d for d, other in enumerate(self.claims) if of and other[3] == of] or [c]
+            who = ", ".join(map(str, dict.fromkeys(self.claims[d][0] for d in alike)))
+            if c == alike[0]:
+                yield f"  {who} {'together ' * bool(of)}at most {most}, by balance {balance}", "code", self.rule == 5 and c == self.place[0]
 
     def draw_table(self, x, top):
         y, end = top, x

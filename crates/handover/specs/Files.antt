@@ -16,7 +16,7 @@ use Rattle.lent.specs.declared.Counts.{Counts}
 use Rattle.engine.specs.declared.Turn.{Turn}
 use Rattle.engine.specs.declared.Walk.{Walk}
 use Rattle.handover.specs.Refusals.{done, refused, ArrayNumber, TableNumber, StartNumber, StepNumber, WalkNumber}
-use Rattle.handover.specs.Front.{Outcome, held, rule}
+use Rattle.handover.specs.Front.{Outcome, held, rule, SetsBounded}
 use Rattle.handover.specs.Engine as E
 use Rattle.handover.specs.Engine.{Told, turned, Left, left, startOf, stepOf, strideOf, WalkPromise}
 use Rattle.handover.specs.declared.WalkAnswer.{WalkAnswer}
@@ -167,6 +167,10 @@ cases =
     -- A with claims of sets 256, 512 and 256, the last of agent 3, which weighs nothing: its set's first claim is named.
     ∷ case (pis 3 nodesA) (setsOfA (claimBytesIn 256 0 6 1 ∷ claimBytesIn 512 0 6 1 ∷ claimBytesIn 256 0 3 1 ∷ [])) (rule 5 (0 ∷ []))
     ∷ []
+
+-- What `bounds` says is not true of every table: agents 5 and 6 of A, one of which runs at the start, in a set of most 0.
+abbrev pub Unbounded : Type 0
+Unbounded = SetsBounded (pis 3 nodesA) (setsOfA (claimBytesIn 1 0 6 0 ∷ claimBytesIn 1 0 5 0 ∷ [])) → ⊥
 
 -- ---- the readers: files, and what the reader says
 

@@ -136,6 +136,10 @@ unsafe-joint : Says (Row.unsafe A (joint 2) (threeOfA (opened 1)))
 unfolding computed table
 unsafe-joint s = let z : 3 ≤ 2 = s .claims 1 (omega arith) in absurd (omega (arith, z))
 
+sums-joint : Says (Row.sums A (joint 2) 1 (threeOfA (opened 1)) 3)
+unfolding computed table
+sums-joint = refl
+
 -- ---- starts, steps, walks and endings that are none
 
 -- what two unequal things differ in: a result's refusal, the configuration that it leaves, its agents, the outs of its markers
@@ -395,7 +399,7 @@ cases = (
 )
 
 pub safe-cases : All Says safeRows
-safe-cases = (safe-brim, (unsafe-claim, (unsafe-bound, (unsafe-row, (unsafe-opening, (safe-joint, (unsafe-joint, tt)))))))
+safe-cases = (safe-brim, (unsafe-claim, (unsafe-bound, (unsafe-row, (unsafe-opening, (safe-joint, (unsafe-joint, (sums-joint, tt))))))))
 
 pub step-cases : All Says stepRows
 step-cases =

@@ -144,6 +144,11 @@ module _ (t : Table) where
         let s = least-among c h in
         s .2 ∙ ap (balanceOf t c .weight) (eqb-true _ _ (sym (single-agent (s .0)) ∙ s .1))
 
+    pub single-count : {X C : Type 0} (k : Config X C) → count (inSet t c) k ≡ count (λ i. eqb i (t .claim c .agent)) k
+    unfolding total
+    single-count [] = refl
+    single-count (x ∷ k) = ap₂ _+_ (ap one (single-agent (x .agent))) (single-count k)
+
     pub single-met : Rule5At t c ↔ MetAlone c
     single-met = let f : ℕ → Type 0 = λ x. balanceOf t c .bound < x * (t .claim c .most + 1) in (subst f single-weight, subst f (sym single-weight))
 

@@ -15,7 +15,7 @@ use Rattle.model.specs.Memory.{standsFor, Starts, Follows, Walks, Ends, 
 use Rattle.model.specs.Memory as M
 use Rattle.model.specs.declared.Claim.{Claim}
 use Rattle.model.specs.Rules.{Table, Broken, Verdict, held, at, verdict, check5, FirstBroken}
-use Rattle.model.specs.Safe.{Safe}
+use Rattle.model.specs.Safe.{setSum, Safe}
 
 -- an array of listed nodes
 abbrev pub arrayFrom : ℕ → List Node → Array
@@ -225,6 +225,7 @@ pub data Row : Type 0 where
   tried : Array → List Attempt → Attempt → Answer Marker Cell → Row
   safe : Array → Table → Config Marker Cell → Row
   unsafe : Array → Table → Config Marker Cell → Row
+  sums : Array → Table → ℕ → Config Marker Cell → ℕ → Row
   noStart : Array → Memory → Result → Row
   noStep : Array → Memory → Attempt → Result → Row
   noWalk : Array → ℕ → Memory → Memory → Row
@@ -243,6 +244,7 @@ Says (walks a k m w) = walkIn a (λ i. false) k m ≡ w
 Says (tried a us u x) = attempt calculus a (run calculus a (λ i. false) us) u ≡ x
 Says (safe a t c) = Safe a t c
 Says (unsafe a t c) = Safe a t c → ⊥
+Says (sums a t q c n) = setSum (a .size) t q c ≡ n
 Says (noStart a m r) = Starts a (λ i. false) m r → ⊥
 Says (noStep a m u r) = Follows a m u (attempt calculus a (standsFor a m) u) r → ⊥
 Says (noWalk a n m e) = Walks a (λ i. false) n (standsFor a m) (standsFor a e) → ⊥
@@ -302,6 +304,7 @@ safeRows =
     -- A set's threads are counted together, an agent that is named twice once: one thread of 3 and two of 6 are three.
     ∷ safe A (joint 3) (threeOfA (opened 1))
     ∷ unsafe A (joint 2) (threeOfA (opened 1))
+    ∷ sums A (joint 2) 1 (threeOfA (opened 1)) 3
     ∷ []
 
 -- what a start and a step are not

@@ -131,7 +131,8 @@ rule4At t i j p q k = leb (loadLeft (t .balance k) p q) (weightGone (t .balance 
 
 -- "5. For every claim, its agent's weight in its balance × (most + 1) exceeds that balance's bound (claim)", as 02 (request i) has it:
 -- "A set is met when its least weight × (most + 1) exceeds the bound; rule 5 names its first claim." A set's claims agree in most and
--- balance (30), so the lowest claim whose set is not met is its set's first (proofs/Sets: first-of-set).
+-- balance (30), so the lowest claim whose set is not met is its set's first (proofs/Sets: first-of-set). Of a claim that stands alone this is
+-- 01's sentence (single-met).
 abbrev pub Rule5At : Table → ℕ → Type 0
 Rule5At t c = balanceOf t c .bound < leastWeight t c * (t .claim c .most + 1)
 

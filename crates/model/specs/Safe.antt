@@ -37,7 +37,8 @@ Flows a t th =
     → (o : ℕ) × (m : Marker) × (getD (th .env) v unheld ≡ holds o m) × (t .row v o ≡ true)
 
 -- "for every balance, the weights of all threads' agents add up, without wrapping, to at most its bound; for every claim, at
--- most `most` threads are of its agent": of an agent in its set (02, request i)
+-- most `most` threads are of its agent": of an agent in its set (02, request i), which is its own where it stands alone (proofs/Sets:
+-- single-count)
 pub record Safe (a : Array) (t : Table) (c : Config Marker Cell) : Type 0 where
   pub flows : All (Flows a t) c
   pub balances : (k : ℕ) → k < t .balances → weighed ((t .balance k) .weight) c ≤ (t .balance k) .bound
