@@ -137,9 +137,9 @@ fn unmet_with(
     if claim_holds(layout::read_claim(table, z, d), loads, bounds) {
         return place;
     }
-    let first = claims::first_of_set(table, z, d);
-    if first < place {
-        return first;
+    let set_first = claims::first_of_set(table, z, d);
+    if set_first < place {
+        return set_first;
     }
     place
 }
