@@ -1,5 +1,5 @@
 // Claims and their sets: refusals 21 and 30, and the first claim of a set.
-// Promises refusal21 and refusal30 of layout, and FirstOf. Depends on layout, records, wire, model and laws.
+// Promises refusal21 and refusal30 of layout, and FirstOf. Depends on layout, records, model and laws.
 ghost use mathlib.Core.Path.{_≡_};
 ghost use Prim.Native.Nat.{_<_};
 ghost use Rattle.records.specs.Record.{arrayOf, foundOf, RecordsFit};

@@ -32,7 +32,7 @@ use Rattle.model.specs.Safe.{Safe, Flows}
 use Rattle.model.specs.Cases.{A, B, D, tableA, table, claim, rowsA, weightsA, limits, joint, tableD, opened, thread, threeOfA, twiceBroken, H, tableH}
 use Rattle.model.proofs.Verdict.{live-Live, first5}
 use Rattle.model.specs.Cases.{pair, lists, walkEnded, A₁, B₀, B₁, B₁₂, B₂, B₃, B₄, G, G₁, G₂, Row, Says}
-use Rattle.model.specs.Cases.{rows, safeRows, stepRows, walkRows, toldRows, laterRows}
+use Rattle.model.specs.Cases.{rows, setRows, safeRows, stepRows, walkRows, toldRows, laterRows}
 use Rattle.model.proofs.Safety.{demand3}
 
 -- Whoever unfolds this unfolds every definition of the model.
@@ -360,46 +360,14 @@ kept-claim b = first5 A tableA (0 ∷ []) _ b refl .fails (omega arith)
 
 pub cases : All Says rows
 unfolding computed table
-cases = (
-  refl,
-  (
-    refl,
-    (
-      refl,
-      (
-        refl,
-        (
-          refl,
-          (
-            refl,
-            (
-              refl,
-              (
-                refl,
-                (
-                  refl,
-                  (
-                    refl,
-                    (
-                      refl,
-                      (
-                        refl,
-                        (refl, (refl, (refl, (refl, (refl, (refl, (refl, (refl, (refl, tt))))))))),
-                      ),
-                    ),
-                  ),
-                ),
-              ),
-            ),
-          ),
-        ),
-      ),
-    ),
-  ),
-)
+cases = (refl, (refl, (refl, (refl, (refl, (refl, (refl, (refl, (refl, (refl, (refl, (refl, (refl, (refl, (refl, (refl, (refl, (refl, tt))))))))))))))))))
+
+pub set-cases : All Says setRows
+unfolding computed table
+set-cases = (refl, (refl, (refl, (safe-joint, (unsafe-joint, (sums-joint, tt))))))
 
 pub safe-cases : All Says safeRows
-safe-cases = (safe-brim, (unsafe-claim, (unsafe-bound, (unsafe-row, (unsafe-opening, (safe-joint, (unsafe-joint, (sums-joint, tt))))))))
+safe-cases = (safe-brim, (unsafe-claim, (unsafe-bound, (unsafe-row, (unsafe-opening, tt)))))
 
 pub step-cases : All Says stepRows
 step-cases =

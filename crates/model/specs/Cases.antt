@@ -266,10 +266,6 @@ rows =
     ∷ judged A (table ((0 ∷ []) ∷ [] ∷ (1 ∷ []) ∷ []) 1 weightsA (claim 6 1 ∷ [])) (hit (at 1 (1 ∷ [])))
     -- *A, w6 = 2: rule 4 at 5, 3, 0.
     ∷ judged A (table rowsA 1 (0 ∷ 0 ∷ 0 ∷ 0 ∷ 0 ∷ 1 ∷ 2 ∷ 0 ∷ []) (claim 6 1 ∷ [])) (hit (at 4 (5 ∷ 3 ∷ 0 ∷ [])))
-    -- A with agents 5 and 6 in one set: at most one of the two. Most 0 is not met, nor is a set with 3, which weighs nothing.
-    ∷ judged A (table rowsA 1 weightsA (claimIn 1 5 1 ∷ claimIn 1 6 1 ∷ [])) held
-    ∷ judged A (table rowsA 1 weightsA (claimIn 1 5 0 ∷ claimIn 1 6 0 ∷ [])) (hit (at 5 (0 ∷ [])))
-    ∷ judged A (table rowsA 1 weightsA (claim 6 1 ∷ claimIn 2 6 1 ∷ claimIn 2 3 1 ∷ [])) (hit (at 5 (1 ∷ [])))
     -- *B, w2 = w5 = 1, bound 1: accepted.
     ∷ judged B (row0 1 (0 ∷ 0 ∷ 1 ∷ 0 ∷ 0 ∷ 1 ∷ 0 ∷ [])) held
     -- *B, only w5 = 1, bound 1: rule 4 at 4, 2, 0.
@@ -291,6 +287,19 @@ rows =
     ∷ tried D (pair 0 1 ∷ pair 0 1 ∷ []) (pair 2 3) (refused 27)
     ∷ []
 
+-- sets of claims
+abbrev pub setRows : List Row
+setRows =
+    -- A with agents 5 and 6 in one set: at most one of the two. Most 0 is not met, nor is a set with 3, which weighs nothing.
+    judged A (table rowsA 1 weightsA (claimIn 1 5 1 ∷ claimIn 1 6 1 ∷ [])) held
+    ∷ judged A (table rowsA 1 weightsA (claimIn 1 5 0 ∷ claimIn 1 6 0 ∷ [])) (hit (at 5 (0 ∷ [])))
+    ∷ judged A (table rowsA 1 weightsA (claim 6 1 ∷ claimIn 2 6 1 ∷ claimIn 2 3 1 ∷ [])) (hit (at 5 (1 ∷ [])))
+    -- A set's threads are counted together, an agent that is named twice once: one thread of 3 and two of 6 are three.
+    ∷ safe A (joint 3) (threeOfA (opened 1))
+    ∷ unsafe A (joint 2) (threeOfA (opened 1))
+    ∷ sums A (joint 2) 1 (threeOfA (opened 1)) 3
+    ∷ []
+
 -- safe, and its neighbours that are not
 abbrev pub safeRows : List Row
 safeRows =
@@ -301,10 +310,6 @@ safeRows =
     ∷ unsafe A (limits (1 ∷ []) 131072 2) (threeOfA (opened 1))
     ∷ unsafe A (limits [] 131073 2) (threeOfA (opened 1))
     ∷ unsafe A (limits (1 ∷ []) 131073 2) (threeOfA Cell.unheld)
-    -- A set's threads are counted together, an agent that is named twice once: one thread of 3 and two of 6 are three.
-    ∷ safe A (joint 3) (threeOfA (opened 1))
-    ∷ unsafe A (joint 2) (threeOfA (opened 1))
-    ∷ sums A (joint 2) 1 (threeOfA (opened 1)) 3
     ∷ []
 
 -- what a start and a step are not
