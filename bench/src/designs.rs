@@ -25,18 +25,23 @@ fn ones(records: &[Record], bound: u32) -> Balance {
     Balance { bound, weights }
 }
 
-fn files(records: &[Record], rows: &[[u64; 4]], balances: &[Balance]) -> Files {
+/// The set of each claim.
+type Sets = fn(usize) -> u16;
+
+const ALONE: Sets = |_| 0;
+
+fn files(records: &[Record], rows: &[[u64; 4]], balances: &[Balance], set: Sets) -> Files {
     let array = array_file(records, rows.len());
     let agents: Vec<usize> = (0..records.len()).filter(|i| records[*i].is_agent()).collect();
     let count = if balances.is_empty() { 0 } else { 256 };
-    let claim = |c: usize| [agents[c % agents.len()] as u16, u16::MAX, (c % balances.len()) as u16, 0];
+    let claim = |c: usize| [agents[c % agents.len()] as u16, u16::MAX, (c % balances.len()) as u16, set(c)];
     let table = table_file(&array, rows, balances, (0..count).map(claim).collect());
     Files { array, table, nodes: records.len(), names: rows.len(), balances: balances.len() }
 }
 
 fn held(records: &[Record], rows: &[[u64; 4]], balances: usize) -> Files {
     let balances: Vec<Balance> = (0..balances).map(|_| ones(records, 2)).collect();
-    files(records, rows, &balances)
+    files(records, rows, &balances, ALONE)
 }
 
 /// A row with one mark.
@@ -46,15 +51,26 @@ fn row(name: usize) -> [u64; 4] {
     row
 }
 
-/// Half receivers, half senders, arity 0, on one channel: every pair is live.
-pub fn pairs(nodes: usize, balances: usize) -> Files {
+/// Half receivers, half senders, arity 0, on one channel.
+fn one_channel(nodes: usize) -> Vec<Record> {
     let count = (nodes - 4) / 2;
     let receivers = vec![(IN, 0, vec![]); count];
     let senders = vec![(OUT, 0, vec![]); nodes - 4 - count];
-    held(&two_chains(1, &receivers, &senders), &[row(0)], balances)
+    two_chains(1, &receivers, &senders)
 }
 
-/// The same, but each pair on one of `channels` channels with rows of their own: few pairs are live.
+/// Every pair is live.
+pub fn pairs(nodes: usize, balances: usize) -> Files {
+    held(&one_channel(nodes), &[row(0)], balances)
+}
+
+/// `pairs` with one balance and with claims in sets.
+pub fn sets(nodes: usize, set: Sets) -> Files {
+    let records = one_channel(nodes);
+    files(&records, &[row(0)], &[ones(&records, 2)], set)
+}
+
+/// `pairs`, but each pair on one of `channels` channels with rows of their own: few pairs are live.
 pub fn sparse(nodes: usize, channels: usize, balances: usize) -> Files {
     let room = nodes - 3 - channels;
     let agent = |kind| move |i| (kind, i % channels, vec![]);
@@ -93,5 +109,5 @@ pub fn broken(nodes: usize, balances: usize) -> Files {
         (0..count).for_each(|i| last.weights[3 + i] = (count - i) as u16);
         last.weights[records.len() - 2] = 2;
     }
-    files(&records, &[row(0), row(1)], &balances)
+    files(&records, &[row(0), row(1)], &balances, ALONE)
 }

@@ -1,7 +1,7 @@
 //! Records and chains of agents, over the writer of files that the tests have.
 
 use outside::files::{ArrayFile, TableFile};
-pub use outside::files::{Balance, Record, IN, NEW, OUT, PAR, RESOURCE};
+pub use outside::files::{Balance, Claim, Record, IN, NEW, OUT, PAR, RESOURCE};
 
 pub fn record(kind: u8, left: usize, right: usize, name: usize, args: &[u8]) -> Record {
     let arguments = args.iter().map(|arg| usize::from(*arg)).collect();
@@ -30,8 +30,8 @@ pub fn array_file(records: &[Record], names: usize) -> Vec<u8> {
     ArrayFile { remark: vec![], records: records.to_vec(), names }.bytes()
 }
 
-/// A table for the array; a claim is agent, most, balance and zero.
-pub fn table_file(array: &[u8], rows: &[[u64; 4]], balances: &[Balance], claims: Vec<[u16; 4]>) -> Vec<u8> {
+/// A table for the array.
+pub fn table_file(array: &[u8], rows: &[[u64; 4]], balances: &[Balance], claims: Vec<Claim>) -> Vec<u8> {
     let bytes = |row: &[u64; 4]| std::array::from_fn(|i| row[i / 8].to_le_bytes()[i % 8]);
     let at = array.len() - 8;
     let array_sum = u32::from_le_bytes(array[at..at + 4].try_into().expect("four bytes"));

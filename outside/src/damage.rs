@@ -1,8 +1,10 @@
 //! Faults in files. The word sum is made right again where a later refusal is meant. What a fault comes to is for the
 //! two sides to say.
 
+use crate::claims::NUMBERS;
 use crate::files::{repair, ArrayFile, Record, TableFile, CLAIM, IN, NEW, OUT, RECORD, ROW, STOP};
 use crate::random::Random;
+use crate::sets;
 
 /// Writes a 16-bit number that takes any value.
 fn put(file: &mut [u8], at: usize, value: usize) {
@@ -160,11 +162,11 @@ fn name_fault(random: &mut Random, array: &ArrayFile, file: &mut [u8], i: usize,
     file[at] = name as u8;
 }
 
-/// The table file with the faults named, numbers 13 to 21. Each fault of a part is made up to three times.
+/// The table file with the faults named, numbers 13 to 21 and 30. Each fault of a part is made up to three times.
 pub fn table(random: &mut Random, table: &TableFile, faults: &[u8]) -> Vec<u8> {
     let table = beyond_table(random, table, faults);
     let mut file = table.bytes();
-    for number in 19..=21 {
+    for number in [19, 20, 21, 30] {
         if faults.contains(&number) {
             for _ in 0..random.between(1, 3) {
                 part_fault(random, &table, &mut file, number);
@@ -209,7 +211,7 @@ fn table_trailer(random: &mut Random, file: &mut Vec<u8>, faults: &[u8]) {
     }
 }
 
-/// One fault of refusals 19 to 21, if the table has the part. Bits are set at random places, also where they may be.
+/// One fault of refusals 19 to 21 or 30, if the table has the part. Bits are set at random places, also where they may be.
 fn part_fault(random: &mut Random, table: &TableFile, file: &mut [u8], number: u8) {
     let balances = ROW * table.rows.len();
     let nodes = table.balances.first().map_or(0, |balance| balance.weights.len());
@@ -225,16 +227,52 @@ fn part_fault(random: &mut Random, table: &TableFile, file: &mut [u8], number: u
             file[at + 4 + random.below(length - 4)] |= 1 << random.below(8);
         }
         21 if !table.claims.is_empty() => {
-            let at = claims + CLAIM * random.below(table.claims.len());
-            match random.below(4) {
-                0 => put(file, at, random.below(nodes)),
-                1 => put(file, at, random.pick(&[nodes, nodes + 1, 65_535])),
-                2 => put(file, at + 4, random.pick(&[table.balances.len(), 24, 65_535])),
-                _ => file[at + 6 + random.below(2)] |= 1 << random.below(8),
-            }
+            let c = random.below(table.claims.len());
+            claim_fault(random, table, &mut file[claims + CLAIM * c..]);
         }
+        30 if table.claims.len() > 1 => set_fault(random, table, &mut file[claims..]),
         _ => {}
     }
+}
+
+/// Another agent or balance in the claim that the bytes begin with.
+fn claim_fault(random: &mut Random, table: &TableFile, claim: &mut [u8]) {
+    let nodes = table.balances.first().map_or(0, |balance| balance.weights.len());
+    match random.below(3) {
+        0 => put(claim, 0, random.below(nodes)),
+        1 => put(claim, 0, random.pick(&[nodes, nodes + 1, 65_535])),
+        _ => put(claim, 4, random.pick(&[table.balances.len(), 24, 65_535])),
+    }
+}
+
+/// Another most or balance in a later claim of a set. Now and then a claim from there on has a fault of 21, which goes
+/// first.
+fn set_fault(random: &mut Random, table: &TableFile, claims: &mut [u8]) {
+    let count = table.claims.len();
+    let later: Vec<usize> = (1..count).filter(|c| !sets::is_first(&table.claims, *c)).collect();
+    let c = random.any(&later).unwrap_or_else(|| join(random, count, claims));
+    let claim = &mut claims[CLAIM * c..];
+    let balances = table.balances.len();
+    if balances > 1 && random.once_in(2) {
+        let other = usize::from(table.claims[c][2]) + random.between(1, balances - 1);
+        put(claim, 4, other % balances);
+    } else {
+        claim[2 + random.below(2)] ^= 1 << random.below(8);
+    }
+    if random.once_in(4) {
+        let d = random.between(c, count - 1);
+        claim_fault(random, table, &mut claims[CLAIM * d..]);
+    }
+}
+
+/// Makes a set of two claims; gives the later one.
+fn join(random: &mut Random, count: usize, claims: &mut [u8]) -> usize {
+    let c = random.between(1, count - 1);
+    let (d, set) = (random.below(c), random.pick(&NUMBERS));
+    for claim in [c, d] {
+        put(claims, CLAIM * claim + 6, set.into());
+    }
+    c
 }
 
 /// The byte of a row that has the last name's bit.

@@ -10,6 +10,13 @@ pub const RESOURCE: u8 = 6;
 pub const RECORD: usize = 16;
 pub const ROW: usize = 32;
 pub const CLAIM: usize = 8;
+pub const TRAILER: usize = 28;
+
+/// A claim's numbers: agent, most, balance, set.
+pub type Claim = [u16; 4];
+/// Where two of them stand.
+pub const MOST: usize = 1;
+pub const SET: usize = 3;
 
 /// A node's record; fields that the kind does not use are 0 or empty.
 #[derive(Clone, Debug, Default)]
@@ -80,8 +87,7 @@ pub struct Balance {
 pub struct TableFile {
     pub rows: Vec<[u8; ROW]>,
     pub balances: Vec<Balance>,
-    /// Agent, most, balance, zero.
-    pub claims: Vec<[u16; 4]>,
+    pub claims: Vec<Claim>,
     pub array_sum: u32,
 }
 
@@ -105,6 +111,34 @@ impl TableFile {
         close(&mut file, b"PIC1");
         file
     }
+
+    /// The parts of a table file that lie where its trailer says; weights come with their padding.
+    pub fn read(file: &[u8]) -> TableFile {
+        let (parts, trailer) = file.split_at(file.len() - TRAILER);
+        let [balances, claims] = [4, 8].map(|at| word(&trailer[at..]) as usize);
+        let length = (claims - balances) / usize::from(number(&trailer[12..])).max(1);
+        let balance = |part: &[u8]| Balance { bound: word(part), weights: numbers(&part[4..]).collect() };
+        TableFile {
+            rows: parts[..balances].as_chunks().0.to_vec(),
+            balances: parts[balances..claims].chunks_exact(length.max(1)).map(balance).collect(),
+            claims: numbers(&parts[claims..]).collect::<Vec<u16>>().as_chunks().0.to_vec(),
+            array_sum: word(&trailer[16..]),
+        }
+    }
+}
+
+/// The 16-bit number that bytes begin with.
+fn number(bytes: &[u8]) -> u16 {
+    u16::from_le_bytes([bytes[0], bytes[1]])
+}
+
+fn numbers(bytes: &[u8]) -> impl Iterator<Item = u16> + '_ {
+    bytes.chunks_exact(2).map(number)
+}
+
+/// The 32-bit number that bytes begin with.
+fn word(bytes: &[u8]) -> u32 {
+    u32::from_le_bytes([bytes[0], bytes[1], bytes[2], bytes[3]])
 }
 
 pub fn has_bit(bytes: &[u8], n: usize) -> bool {
@@ -125,7 +159,6 @@ fn close(file: &mut Vec<u8>, letters: &[u8; 4]) {
 /// Makes the word sum right, which stands before the letters in both files.
 pub fn repair(file: &mut [u8]) {
     let Some(at) = file.len().checked_sub(8) else { return };
-    let words = file[..at].chunks_exact(4).map(|word| u32::from_le_bytes([word[0], word[1], word[2], word[3]]));
-    let sum = words.fold(0u32, u32::wrapping_add);
+    let sum = file[..at].chunks_exact(4).map(word).fold(0u32, u32::wrapping_add);
     file[at..at + 4].copy_from_slice(&sum.to_le_bytes());
 }

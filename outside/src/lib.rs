@@ -2,6 +2,7 @@
 //! compared.
 
 pub mod arrays;
+pub mod claims;
 pub mod damage;
 pub mod files;
 pub mod guarded;
@@ -10,6 +11,7 @@ pub mod packed;
 pub mod parts;
 pub mod random;
 pub mod run;
+pub mod sets;
 pub mod tables;
 pub mod tally;
 pub mod watch;

@@ -7,6 +7,7 @@ use crate::guarded::{Region, Side};
 use crate::lists::Lists;
 use crate::packed;
 use crate::random::Random;
+use crate::sets;
 use crate::tally::{Tally, CHECK, START, STEP, WALK};
 use crate::watch::{begin_call, begin_round, fail, hex};
 
@@ -93,6 +94,7 @@ impl Run {
             fail(&what, &[("array", hex(array.to_vec())), ("table", hex(table.to_vec()))]);
         }
         self.tally.add(CHECK, answer);
+        sets::count(&mut self.tally, answer, table);
         answer
     }
 

@@ -2,11 +2,11 @@
 
 use plain::{Array, Kind};
 
+use crate::claims::{self, MOST_CLAIMS};
 use crate::files::{flip_bit, has_bit, Balance, TableFile, ROW};
 use crate::random::Random;
 
 const MOST_BALANCES: usize = 24;
-const MOST_CLAIMS: usize = 256;
 
 type Rows = Vec<[u8; ROW]>;
 type Pair = (usize, usize);
@@ -14,7 +14,7 @@ type Pair = (usize, usize);
 /// Rows closed under rules 1 and 3, balances whose weights were raised until rule 4 holds, and claims that follow.
 pub fn accepted(random: &mut Random, array: &Array) -> TableFile {
     let count = if random.once_in(40) { MOST_BALANCES } else { random.below(4) };
-    let wanted = if random.once_in(40) { MOST_CLAIMS } else { random.below(5) };
+    let wanted = if random.once_in(40) { MOST_CLAIMS } else { random.below(12) };
     draft(random, array, count, wanted)
 }
 
@@ -28,15 +28,15 @@ fn draft(random: &mut Random, array: &Array, count: usize, wanted: usize) -> Tab
     let pairs = live(array, &loose, &[]);
     let balances: Vec<Balance> = (0..count).map(|_| balance(random, array, &pairs)).collect();
     let rows = if random.once_in(2) { saturated(array, &balances) } else { loose };
-    let claims = claims(random, array, &balances, wanted);
+    let claims = claims::following(random, &balances, wanted);
     TableFile { rows, balances, claims, array_sum: array.sum() }
 }
 
-/// An accepted draft with one figure changed.
+/// An accepted draft with one figure changed, or a few of its claims.
 pub fn nearly(random: &mut Random, array: &Array) -> TableFile {
     let mut table = accepted(random, array);
     let opened: Vec<usize> = array.opened().iter().collect();
-    match random.below(4) {
+    match random.below(5) {
         0 if !opened.is_empty() => {
             let row = random.below(table.rows.len());
             flip_bit(&mut table.rows[row], random.pick(&opened));
@@ -46,8 +46,9 @@ pub fn nearly(random: &mut Random, array: &Array) -> TableFile {
             nudge(random, array, &mut table.balances[at]);
         }
         _ if !table.claims.is_empty() => {
-            let at = random.below(table.claims.len());
-            table.claims[at][1] = table.claims[at][1].wrapping_sub(1);
+            for _ in 0..random.between(1, 4) {
+                claims::nudge(random, array, &table.balances, &mut table.claims);
+            }
         }
         _ => {}
     }
@@ -93,8 +94,11 @@ pub fn broken(random: &mut Random, array: &Array) -> TableFile {
         let bound = random.pick(&[load, load + 1, load + greatest, load.saturating_sub(1), 4_294_967_295]) as u32;
         balances.push(Balance { bound, weights });
     }
-    let wanted = random.below(5);
-    let claims = claims(random, array, &balances, wanted);
+    let wanted = random.below(12);
+    let mut claims = claims::following(random, &balances, wanted);
+    if random.once_in(4) {
+        claims::mix_sets(random, &mut claims);
+    }
     TableFile { rows, balances, claims, array_sum: array.sum() }
 }
 
@@ -144,28 +148,6 @@ fn raised(random: &mut Random, array: &Array, pairs: &[Pair], mut weights: Vec<u
         }
     }
     vec![0; weights.len()]
-}
-
-/// Claims that follow from the balances, most of them with the least number that does. Some are repeated.
-fn claims(random: &mut Random, array: &Array, balances: &[Balance], wanted: usize) -> Vec<[u16; 4]> {
-    let agents = agents(array);
-    if agents.is_empty() || balances.is_empty() {
-        return Vec::new();
-    }
-    let mut claims = Vec::new();
-    for _ in 0..wanted {
-        let (agent, at) = (random.pick(&agents), random.below(balances.len()));
-        let weight = u32::from(balances[at].weights[agent]);
-        let least = balances[at].bound.checked_div(weight).unwrap_or(u32::MAX);
-        if least <= 65_535 {
-            let slack = if random.once_in(4) { random.between(0, 65_535 - least as usize) } else { 0 };
-            claims.push([agent as u16, (least as usize + slack) as u16, at as u16, 0]);
-        } else if let Some(claim) = random.any(&claims) {
-            claims.push(claim);
-        }
-    }
-    claims.extend(vec![claims.first().copied(); wanted - claims.len()].into_iter().flatten());
-    claims
 }
 
 /// The least rows that meet rules 1 and 3 under the balances.

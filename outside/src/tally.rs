@@ -5,25 +5,35 @@ pub const CHECK: usize = 0;
 pub const START: usize = 1;
 pub const STEP: usize = 2;
 pub const WALK: usize = 3;
-const REFUSALS: usize = 29;
+const REFUSALS: usize = 30;
 /// The refusals that name a place.
-const PLACED: [usize; 10] = [6, 7, 8, 9, 10, 11, 12, 19, 20, 21];
+const PLACED: [usize; 11] = [6, 7, 8, 9, 10, 11, 12, 19, 20, 21, 30];
 
 /// Further counts, none of which may stay 0.
-const OTHERS: [&str; 13] = [
+const OTHERS: [&str; 23] = [
     "longest arrays",
     "longest tables",
+    "held with a set of two agents",
+    "held with 256 claims in one set",
+    "held with 256 sets",
+    "rule 5 at a claim that alone would hold",
+    "rule 5 where another set fails first",
+    "21 after a claim that 30 would name",
     "calls with NULL",
     "configurations alike in engine and calculus",
     "of these with a marker",
     "accepted tables tried",
     "of these with a weight",
+    "of these with a set of two agents",
     "configurations of demand 3",
+    "of these with a set filled by two agents",
     "steps of demand 3",
     "attempts of demand 3 refused",
     "broken by a row: not accepted",
     "broken by a bound: not accepted",
     "broken by a claim: not accepted",
+    "broken by a set's most: not accepted",
+    "broken by a set's sum alone: not accepted",
 ];
 
 #[derive(Clone, Copy, Default)]
@@ -63,9 +73,9 @@ pub struct Tally {
 /// Whether an entry uses a refusal.
 fn uses(entry: usize, number: usize) -> bool {
     match entry {
-        CHECK => number <= 21,
+        CHECK => number <= 21 || number == 30,
         START => number <= 12 || number == 22 || number == 28,
-        STEP => number <= 12 || number >= 22,
+        STEP => number <= 12 || (22..=29).contains(&number),
         _ => number <= 12 || number == 22 || number == 23,
     }
 }

@@ -1,6 +1,7 @@
 //! The checker and the engine written for speed alone: unchecked indexing, raw pointers, nothing allocated unless
 //! an array is refused.
-//! Arguments and answers are those of `include/handover.h`. It keeps to what the base has: later requests are timed beside plain alone.
+//! Arguments and answers are those of `include/handover.h`. It has the base and the sets of claims: what later requests add is timed beside
+//! plain alone.
 
 mod array;
 mod engine;

@@ -1,4 +1,4 @@
-//! Reads a table file: refusals 13 to 21.
+//! Reads a table file: refusals 13 to 21 and 30.
 
 use super::array::Array;
 use super::{refusal, u16_at, u32_at, u64_at, word_sum, Row};
@@ -19,7 +19,7 @@ pub struct Claim {
     pub agent: usize,
     pub most: u64,
     pub balance: usize,
-    last: u64,
+    pub set: u64,
 }
 
 impl Table<'_> {
@@ -44,7 +44,7 @@ impl Table<'_> {
             agent: (word & 0xffff) as usize,
             most: word >> 16 & 0xffff,
             balance: (word >> 32 & 0xffff) as usize,
-            last: word >> 48,
+            set: word >> 48,
         }
     }
 }
@@ -55,6 +55,7 @@ pub fn read<'a>(array: &Array, file: &'a [u8]) -> Result<Table<'a>, u64> {
         check_rows(array, &table)?;
         check_balances(array, &table)?;
         check_claims(array, &table)?;
+        check_sets(&table)?;
     }
     Ok(table)
 }
@@ -126,9 +127,48 @@ unsafe fn check_claims(array: &Array, table: &Table) -> Result<(), u64> {
     for c in 0..table.claims {
         let claim = table.claim(c);
         let agent = claim.agent < array.nodes && array.node(claim.agent).is_agent();
-        if !agent || claim.balance >= table.balances || claim.last != 0 {
+        if !agent || claim.balance >= table.balances {
             return Err(refusal(21, c));
         }
     }
     Ok(())
+}
+
+/// Marks a slot without a claim.
+const FREE: u16 = u16::MAX;
+
+/// Refusal 30: each claim is compared with the first of its set.
+unsafe fn check_sets(table: &Table) -> Result<(), u64> {
+    if (0..table.claims).fold(0, |sets, c| sets | table.claim(c).set) == 0 {
+        return Ok(());
+    }
+    let mut slots = [FREE; 1024];
+    for c in 0..table.claims {
+        let claim = table.claim(c);
+        if claim.set == 0 {
+            continue;
+        }
+        let first = first_of_set(table, &mut slots, c, claim);
+        if first.most != claim.most || first.balance != claim.balance {
+            return Err(refusal(30, c));
+        }
+    }
+    Ok(())
+}
+
+/// The first claim of claim c's set, found by open addressing. It is noted where it is claim c.
+unsafe fn first_of_set(table: &Table, slots: &mut [u16; 1024], c: usize, claim: Claim) -> Claim {
+    let mut slot = (claim.set.wrapping_mul(0x9e37_79b9_7f4a_7c15) >> 54) as usize;
+    loop {
+        let found = slots.get_unchecked_mut(slot);
+        if *found == FREE {
+            *found = c as u16;
+            return claim;
+        }
+        let first = table.claim(usize::from(*found));
+        if first.set == claim.set {
+            return first;
+        }
+        slot = (slot + 1) & 1023;
+    }
 }

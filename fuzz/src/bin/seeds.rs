@@ -1,8 +1,11 @@
-//! Writes the corpus that the fuzzer starts from: the examples, the stored pairs of files, the stored arrays, and random arrays with
-//! accepted, nearly accepted and broken tables, each with some calls. Argument: the folder.
+//! Writes the corpus that the fuzzer starts from: the examples, the stored pairs of files, the stored arrays, random arrays
+//! with accepted, nearly accepted and broken tables, and tables with sets, by what is answered. Each comes with some
+//! calls. Argument: the folder.
 
+use outside::files::TableFile;
 use outside::random::Random;
-use outside::{arrays, parts, tables};
+use outside::{arrays, damage, parts, sets, tables};
+use plain::Verdict;
 use std::fs;
 use std::io;
 use std::path::Path;
@@ -11,6 +14,7 @@ const REPAIR_BOTH: u8 = 3;
 /// Larger files only slow the fuzzer down.
 const MOST_BYTES: usize = 8000;
 const RANDOM: u64 = 300;
+const OF_EACH_SORT: usize = 25;
 
 type Pair = (String, Vec<u8>, Vec<u8>);
 
@@ -78,14 +82,46 @@ fn random(round: u64) -> Pair {
     (format!("random-{round}"), array, table)
 }
 
+/// A table that has a set of two agents, now and then with a set whose claims differ.
+fn random_sets(round: u64) -> Option<Pair> {
+    let mut random = Random::of(2, 0, round);
+    let array = arrays::busy(&mut random).bytes();
+    let draft = random.pick(&[tables::accepted, tables::nearly]);
+    let table = draft(&mut random, &parts::read(&array));
+    let faults = random.pick(&[&[][..], &[30]]);
+    let bytes = damage::table(&mut random, &table, faults);
+    sets::has_wide(&table.claims).then_some((format!("sets-{round}"), array, bytes))
+}
+
+/// Held; broken by a set whose first claim would hold alone; refused by 30.
+fn has_sort(sort: usize, pair: &Pair) -> bool {
+    match plain::check(&pair.1, &pair.2) {
+        Verdict::Held { .. } => sort == 0,
+        Verdict::Rule { number: 5, place } => sort == 1 && sets::holds_alone(&TableFile::read(&pair.2), place[0]),
+        Verdict::Refused(refusal) => sort == 2 && refusal.number == 30,
+        _ => false,
+    }
+}
+
+/// As many of each sort, whose files are small enough.
+fn of_each_sort() -> impl Iterator<Item = Pair> {
+    let of = |sort| (0..).filter_map(random_sets).filter(move |pair| is_small(pair) && has_sort(sort, pair));
+    (0..3).flat_map(move |sort| of(sort).take(OF_EACH_SORT))
+}
+
+fn is_small(pair: &Pair) -> bool {
+    pair.1.len() + pair.2.len() <= MOST_BYTES
+}
+
 fn main() -> io::Result<()> {
     let root = Path::new(env!("CARGO_MANIFEST_DIR")).join("..");
     let folder = std::env::args().nth(1).expect("the folder to write to");
     fs::create_dir_all(&folder)?;
     let arrays =
         files_in(&root.join("crates/inspect/data"))?.into_iter().map(|(name, array)| (name, array, Vec::new()));
-    let pairs = examples(&root)?.into_iter().chain(stored(&root)?).chain(arrays).chain((0..RANDOM).map(random));
-    for (name, array, table) in pairs.filter(|pair| pair.1.len() + pair.2.len() <= MOST_BYTES) {
+    let files = examples(&root)?.into_iter().chain(stored(&root)?).chain(arrays);
+    let pairs = files.chain((0..RANDOM).map(random)).chain(of_each_sort());
+    for (name, array, table) in pairs.filter(is_small) {
         fs::write(Path::new(&folder).join(name), seed(&array, &table))?;
     }
     Ok(())

@@ -5,10 +5,13 @@ use crate::parts::{read, some_choices};
 use crate::run::{Call, Run, Setting};
 use crate::{arrays, damage, files, tables};
 
+const ARRAY_FAULTS: [u8; 12] = [1, 2, 3, 4, 5, 6, 7, 8, 9, 10, 11, 12];
+const TABLE_FAULTS: [u8; 10] = [13, 14, 15, 16, 17, 18, 19, 20, 21, 30];
+
 /// One or two faults in an array file.
 pub fn arrays(run: &mut Run) {
     let file = some_array(run);
-    let faults = two(run, 1, 12);
+    let faults = two(run, &ARRAY_FAULTS);
     let damaged = damage::array(&mut run.random, &file, &faults);
     let array = read(&file.bytes());
     if run.random.once_in(4) {
@@ -37,11 +40,11 @@ pub fn tables(run: &mut Run) {
     let file = some_array(run);
     let bytes = file.bytes();
     let table = tables::accepted(&mut run.random, &read(&bytes));
-    let faults = two(run, 13, 21);
+    let faults = two(run, &TABLE_FAULTS);
     let damaged = damage::table(&mut run.random, &table, &faults);
     run.check(&bytes, &damaged);
     if run.random.once_in(16) {
-        let faults = two(run, 1, 12);
+        let faults = two(run, &ARRAY_FAULTS);
         let array = damage::array(&mut run.random, &file, &faults);
         run.check(&array, &damaged);
     }
@@ -56,9 +59,9 @@ fn some_array(run: &mut Run) -> files::ArrayFile {
     }
 }
 
-fn two(run: &mut Run, low: usize, high: usize) -> Vec<u8> {
+fn two(run: &mut Run, faults: &[u8]) -> Vec<u8> {
     let count = run.random.between(1, 2);
-    (0..count).map(|_| run.random.between(low, high) as u8).collect()
+    (0..count).map(|_| run.random.pick(faults)).collect()
 }
 
 /// Every byte of two small files changed, with the old and with the new word sum, and every length below the file's.

@@ -4,17 +4,23 @@
 use plain::calculus::{self, Configuration};
 use plain::Array;
 
-use crate::files::{flip_bit, has_bit, TableFile};
+use crate::claims::MOST_CLAIMS;
+use crate::files::{flip_bit, has_bit, Claim, TableFile, MOST, SET};
 use crate::parts::{choices, read};
 use crate::random::Random;
 use crate::run::Run;
 use crate::watch::{fail, hex};
-use crate::{arrays, tables};
+use crate::{arrays, sets, tables};
 
 const MOST_ATTEMPTS: usize = 24;
 const MOST_THREADS: usize = 40;
-const WAYS: [&str; 3] =
-    ["broken by a row: not accepted", "broken by a bound: not accepted", "broken by a claim: not accepted"];
+const WAYS: [&str; 5] = [
+    "broken by a row: not accepted",
+    "broken by a bound: not accepted",
+    "broken by a claim: not accepted",
+    "broken by a set's most: not accepted",
+    "broken by a set's sum alone: not accepted",
+];
 
 pub fn demand3(run: &mut Run) {
     let file = arrays::busy(&mut run.random).bytes();
@@ -28,7 +34,8 @@ pub fn demand3(run: &mut Run) {
     let weighs = table.balances.iter().any(|balance| balance.weights.iter().any(|weight| *weight > 0));
     run.tally.other("accepted tables tried", 1);
     run.tally.other("of these with a weight", u64::from(weighs));
-    let last = try_attempts(run, &file, &array, &bytes);
+    run.tally.other("of these with a set of two agents", u64::from(sets::has_wide(&table.claims)));
+    let last = try_attempts(run, &file, &array, &table);
     for (way, name) in WAYS.into_iter().enumerate() {
         if let Some(broken) = break_by(&mut run.random, &table, &last, way) {
             see_broken(run, &file, &array, &broken.bytes(), &last, name);
@@ -37,12 +44,12 @@ pub fn demand3(run: &mut Run) {
 }
 
 /// Random attempts from a start. Every configuration met must be safe; gives the last one.
-fn try_attempts(run: &mut Run, file: &[u8], array: &Array, bytes: &[u8]) -> Configuration {
-    let table = plain::read_table(file, bytes).expect("an accepted table is read");
+fn try_attempts(run: &mut Run, file: &[u8], array: &Array, draft: &TableFile) -> Configuration {
+    let table = plain::read_table(file, &draft.bytes()).expect("an accepted table is read");
     let first = choices(&mut run.random);
     let mut met = calculus::begin(array, &|node| has_bit(&first, node));
     for _ in 0..run.random.below(MOST_ATTEMPTS) {
-        see_safe(run, file, array, &table, bytes, &met);
+        see_safe(run, file, array, &table, draft, &met);
         let (receiver, sender) = positions(&mut run.random, array, &met);
         let choices = choices(&mut run.random);
         match calculus::attempt(array, &met, receiver, sender, &|node| has_bit(&choices, node)) {
@@ -56,16 +63,32 @@ fn try_attempts(run: &mut Run, file: &[u8], array: &Array, bytes: &[u8]) -> Conf
             break;
         }
     }
-    see_safe(run, file, array, &table, bytes, &met);
+    see_safe(run, file, array, &table, draft, &met);
     met
 }
 
-fn see_safe(run: &mut Run, file: &[u8], array: &Array, table: &plain::Table, bytes: &[u8], met: &Configuration) {
+fn see_safe(run: &mut Run, file: &[u8], array: &Array, table: &plain::Table, draft: &TableFile, met: &Configuration) {
     if !calculus::safe(array, table, met) {
-        let inputs = [("array", hex(file.to_vec())), ("table", hex(bytes.to_vec())), ("reached", format!("{met:?}"))];
+        let inputs = [("array", hex(file.to_vec())), ("table", hex(draft.bytes())), ("reached", format!("{met:?}"))];
         fail("an accepted table, and a reached configuration that is not safe", &inputs);
     }
     run.tally.other("configurations of demand 3", 1);
+    run.tally.other("of these with a set filled by two agents", u64::from(is_filled(&draft.claims, met)));
+}
+
+/// How many threads are of the agent.
+fn count(met: &Configuration, agent: usize) -> usize {
+    met.threads.iter().filter(|thread| thread.node == agent).count()
+}
+
+/// Whether some set has as many threads as it may, and not all of one agent.
+fn is_filled(claims: &[Claim], met: &Configuration) -> bool {
+    let is_filled = |c: usize| {
+        let counts: Vec<usize> = sets::agents(claims, c).into_iter().map(|agent| count(met, agent)).collect();
+        let sum: usize = counts.iter().sum();
+        sum == usize::from(claims[c][MOST]) && counts.iter().filter(|count| **count > 0).count() > 1
+    };
+    (0..claims.len()).any(|c| claims[c][SET] != 0 && sets::is_first(claims, c) && is_filled(c))
 }
 
 /// Positions of a ready pair mostly, else any, also far out of range.
@@ -105,16 +128,56 @@ fn break_by(random: &mut Random, table: &TableFile, met: &Configuration, way: us
             let weight: u32 = met.threads.iter().map(|thread| u32::from(balance.weights[thread.node])).sum();
             balance.bound = weight.checked_sub(1)?;
         }
+        _ if table.balances.is_empty() => return None,
+        2 => {
+            let most = count(met, thread.node) - 1;
+            add_claims(random, &mut broken.claims, &[thread.node], [most, at, 0])?;
+        }
+        3 => lower_set(random, &mut broken.claims, met)?,
         _ => {
-            let count = met.threads.iter().filter(|other| other.node == thread.node).count();
-            let claim = [thread.node as u16, count as u16 - 1, at as u16, 0];
-            if table.balances.is_empty() || table.claims.len() == 256 {
-                return None;
-            }
-            broken.claims.insert(random.between(0, table.claims.len()), claim);
+            let other = met.threads.iter().find(|other| other.node != thread.node)?.node;
+            add_set(random, &mut broken.claims, met, [thread.node, other], at)?;
         }
     }
     Some(broken)
+}
+
+/// Adds a set of two agents, each of which has no more threads than it allows. One agent is named twice.
+fn add_set(
+    random: &mut Random,
+    claims: &mut Vec<Claim>,
+    met: &Configuration,
+    agents: [usize; 2],
+    balance: usize,
+) -> Option<()> {
+    let most = agents.map(|agent| count(met, agent)).iter().sum::<usize>() - 1;
+    let unused = (1..).find(|set| claims.iter().all(|claim| usize::from(claim[SET]) != *set))?;
+    let named = [agents[0], agents[1], random.pick(&agents)];
+    add_claims(random, claims, &named, [most, balance, unused])
+}
+
+/// Adds a claim for each agent, with most, balance and set, at any places that there is room for.
+fn add_claims(random: &mut Random, claims: &mut Vec<Claim>, agents: &[usize], rest: [usize; 3]) -> Option<()> {
+    if claims.len() + agents.len() > MOST_CLAIMS {
+        return None;
+    }
+    for agent in agents {
+        let [most, balance, set] = rest.map(|number| number as u16);
+        claims.insert(random.between(0, claims.len()), [*agent as u16, most, balance, set]);
+    }
+    Some(())
+}
+
+/// Takes a set's most below the threads that its agents have.
+fn lower_set(random: &mut Random, claims: &mut [Claim], met: &Configuration) -> Option<()> {
+    let in_sets: Vec<usize> = (0..claims.len()).filter(|c| claims[*c][SET] != 0).collect();
+    let c = random.any(&in_sets)?;
+    let sum: usize = sets::agents(claims, c).into_iter().map(|agent| count(met, agent)).sum();
+    let most = sum.checked_sub(1)?;
+    for d in sets::members(claims, c) {
+        claims[d][MOST] = most as u16;
+    }
+    Some(())
 }
 
 fn see_broken(run: &mut Run, file: &[u8], array: &Array, bytes: &[u8], met: &Configuration, way: &str) {
