@@ -11,8 +11,8 @@
  *   - The stack has 512 KiB to spare (docs/PERFORMANCE.md says what was measured).
  * With length 0 the pointer may be NULL; nothing is read through it.
  *
- * Refusals are numbered as in the scope paper: 1 to 12 the array, 13 to 21 and 30 the table, 22 the choice bytes, 23 the lent lists, 24
- * to 29 the step. Each has a place, 0 where none is named. handover(3) lists them.
+ * Refusals are numbered as in the scope paper and the requests that follow it: 1 to 12 the array, 13 to 21 and 30 the table, 22 the choice
+ * bytes, 23 the lent lists, 24 to 29 the step. Each has a place, 0 where none is named. handover(3) lists them.
  */
 #ifndef HANDOVER_H
 #define HANDOVER_H

@@ -141,7 +141,8 @@ CASES = [
     ("A", "A-set-apart", of_sets((5, 1, 1), (6, 1, 2), (6, 1, 1)), "held 8 3 1 3"),
     ("A", "A-set-apart-weightless", of_sets((5, 1, 5), (6, 1, 7), (3, 1, 7), (6, 1, 5)), "rule 5 1"),
     ("A", "A-sets-nested", of_sets((6, 1, 5), (6, 1, 7), (3, 1, 7), (3, 1, 5)), "rule 5 0"),
-    # a set's number is all of its 16 bits
+    # a set's number is all of its 16 bits: 1 and 2, and 1 with each other bit, are sets with mosts of their own
+    ("A", "A-sets-of-each-bit", of_sets((6, 1, 1), (6, 40, 2), *[(6, 1 + k, 1 + 2 ** k) for k in range(1, 16)]), "held 8 3 1 17"),
     ("A", "A-sets-1-257", of_sets((5, 1, 1), (6, 2, 257)), "held 8 3 1 2"),
     ("A", "A-sets-256-512", of_sets((5, 1, 256), (6, 2, 512)), "held 8 3 1 2"),
     ("A", "A-set-256", of_sets((6, 1, 256), (6, 1, 512), (3, 1, 256)), "rule 5 0"),
@@ -207,6 +208,12 @@ CASES = [
     ("A", "A-claim-no-balance", pic(a, rows, [], [claim(6, 1)]), "refused 21 0"),
     # a last number other than 0 is a set's: a set of one claim
     ("A", "A-claim-last", pic(a, rows, [bal], [claim(6, 1), claim(6, 1), claim(6, 1, 0, 1)]), "held 8 3 1 3"),
+    # and so are the others: 65,535 x 65,536 exceeds the bound by 1; an agent and a balance with a bit too many
+    ("A", "A-most-65535", pic(a, rows, [balance(4294901759, {5: 65535, 6: 65535}, 8)], [claim(6, 65535)]), "held 8 3 1 1"),
+    ("A", "A-claim-of-1030", pic(a, rows, [bal], [claim(1030, 1)]), "refused 21 0"),
+    ("A", "A-claim-of-32774", pic(a, rows, [bal], [claim(32774, 1)]), "refused 21 0"),
+    ("A", "A-claim-balance-256", pic(a, rows, [bal], [claim(6, 1, 256)]), "refused 21 0"),
+    ("A", "A-claim-balance-32768", pic(a, rows, [bal], [claim(6, 1, 32768)]), "refused 21 0"),
     # 30: claims of a set that differ, in most and in balance; the later claim is named, the lowest such, whatever lies between
     ("A", "A-set-mosts", of_sets((5, 1, 1), (6, 2, 1)), "refused 30 1"),
     ("A", "A-set-mosts-by-256", of_sets((5, 256, 1), (6, 512, 1)), "refused 30 1"),

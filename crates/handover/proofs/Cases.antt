@@ -4,7 +4,7 @@ use native.Mathlib.Omega.{arith}
 use mathlib.Core.Path.{_≡_, refl, ap, _∙_}
 use mathlib.Core.Logic.{_≢_, inl, inr, ⊎-elim}
 use mathlib.Core.Bool.{true, false, true≢false}
-use mathlib.Core.List.{List, [], map}
+use mathlib.Core.List.{List, [], _∷_, map}
 use Rattle.laws.specs.Search as F
 use Rattle.laws.specs.Lists as L
 use Rattle.laws.specs.Lists.{All}
@@ -12,6 +12,7 @@ use Rattle.wire.specs.Numbers as N
 use Rattle.model.specs.Tree as T
 use Rattle.model.specs.Formed as W
 use Rattle.model.specs.Calculus as S
+use Rattle.model.specs.Calculus.{Attempt}
 use Rattle.model.specs.Numbers as I
 use Rattle.model.specs.Memory as M
 use Rattle.model.specs.Rules as U
@@ -27,7 +28,7 @@ use Rattle.engine.specs.declared.Walk.{Walk}
 use Rattle.handover.specs.declared.WalkAnswer.{WalkAnswer}
 use Rattle.handover.specs.declared.WalkAnswer.the-variants.{Walked, Refused}
 use Rattle.handover.specs.Engine.{startOf, stepOf, walkOf, nextLeft, strideOf, Left, saysWalk}
-use Rattle.handover.specs.Files.{Case, cases, Unbounded, remark, remarkedB, tablesRead, arraysRead, Letters}
+use Rattle.handover.specs.Files.{Case, cases, Unkept, remark, remarkedB, tablesRead, arraysRead, Letters}
 use Rattle.handover.specs.Files.{Answered, calls, toLeft, Ended, Answers, endings, Unlisted}
 use Rattle.handover.specs.Refusals.{done, StartNumber, WalkNumber}
 
@@ -42,7 +43,7 @@ unfolding F.test F.andThen F.under F.first F.every F.any F.sum F.least L.one L.a
     S.stepped S.attempt S.start I.sameEntry I.position I.extend I.listAfter I.markersAfter
     M.words M.threadIn M.threadsIn M.wordsOf M.entryIn M.entriesIn M.numbersOf M.isResource M.isOut M.wordFormed M.threadFormed M.entryFormed M.unlike M.formed
     M.store M.fitted M.startIn M.onAnswer M.stepIn M.isNext M.firstReady M.onPair M.onStep M.walkIn
-    S.calculus S.attempts S.run Z.total U.together U.inSet U.leastWeight
+    S.sameMarker S.sameCell S.calculus S.after S.attempts S.run Z.total U.together U.inSet U.leastWeight
     U.within U.shareBit U.fitBoth U.live U.taken U.onLive U.pairs U.check1 U.check2 U.arguments3 U.check3 U.balances4 U.check4 U.check5 U.verdict
 computed = tt
 
@@ -50,9 +51,17 @@ pub cases-hold : map (λ (c : Case). judged (c .array) (c .table)) cases ≡ map
 unfolding computed judged
 cases-hold = refl
 
-pub unbounded : Unbounded
+-- A's step
+abbrev meets : Attempt
+meets = record { receiver = 1; sender = 0; choices = λ i. false }
+
+pub unkept : Unkept
 unfolding computed
-unbounded b = let z : 1 ≤ 0 = b (λ i. false) [] 0 (omega arith) in absurd (omega (arith, z))
+unkept = record {
+  holds = λ d. let z : 1 ≤ 0 = d (λ i. false) (meets ∷ []) .claims 0 (omega arith) in absurd (omega (arith, z));
+  atStart = λ b. let z : 1 ≤ 0 = b (λ i. false) [] 0 (omega arith) in absurd (omega (arith, z));
+  afterStep = λ b. let z : 1 ≤ 0 = b (λ i. false) (meets ∷ []) 1 (omega arith) in absurd (omega (arith, z));
+}
 
 pub remark-holds : remarkOf remarkedB ≡ remark
 unfolding computed readArray

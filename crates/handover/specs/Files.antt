@@ -16,7 +16,7 @@ use Rattle.lent.specs.declared.Counts.{Counts}
 use Rattle.engine.specs.declared.Turn.{Turn}
 use Rattle.engine.specs.declared.Walk.{Walk}
 use Rattle.handover.specs.Refusals.{done, refused, ArrayNumber, TableNumber, StartNumber, StepNumber, WalkNumber}
-use Rattle.handover.specs.Front.{Outcome, held, rule, SetsBounded}
+use Rattle.handover.specs.Front.{Outcome, held, rule, Demand3, SetsBounded}
 use Rattle.handover.specs.Engine as E
 use Rattle.handover.specs.Engine.{Told, turned, Left, left, startOf, stepOf, strideOf, WalkPromise}
 use Rattle.handover.specs.declared.WalkAnswer.{WalkAnswer}
@@ -168,9 +168,14 @@ cases =
     ∷ case (pis 3 nodesA) (setsOfA (claimBytesIn 256 0 6 1 ∷ claimBytesIn 512 0 6 1 ∷ claimBytesIn 256 0 3 1 ∷ [])) (rule 5 (0 ∷ []))
     ∷ []
 
--- What `bounds` says is not true of every table: agents 5 and 6 of A, one of which runs at the start, in a set of most 0.
-abbrev pub Unbounded : Type 0
-Unbounded = SetsBounded (pis 3 nodesA) (setsOfA (claimBytesIn 1 0 6 0 ∷ claimBytesIn 1 0 5 0 ∷ [])) → ⊥
+-- What `holds` and `bounds` promise is not true of every table, and not of the start alone: of A, agent 5 runs at the start, and agent 6 after
+-- its step
+pub record Unkept : Type 0 where
+  pub holds : Demand3 (pis 3 nodesA) (tableBytesA 2 2 1 1 0) → ⊥
+  -- agents 6 and 5 in a set of most 0
+  pub atStart : SetsBounded (pis 3 nodesA) (setsOfA (claimBytesIn 1 0 6 0 ∷ claimBytesIn 1 0 5 0 ∷ [])) → ⊥
+  -- agent 6 alone in a set of most 0, the second claim
+  pub afterStep : SetsBounded (pis 3 nodesA) (setsOfA (claimBytes 5 1 ∷ claimBytesIn 1 0 6 0 ∷ [])) → ⊥
 
 -- ---- the readers: files, and what the reader says
 

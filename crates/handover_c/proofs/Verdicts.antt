@@ -85,9 +85,12 @@ pub verdict-fits : (f s : List ℕ) (v : Verdict) → Judges f s v → FitsReply
 verdict-fits f s v j = subst (FitsReply FitsOutcome TableNumber) (sym (j .answers)) (judged-fits f s)
 
 pub checks : (f s : List ℕ) (v : Verdict) → Judges f s v → (r : ℕ) → r ≡ packedReply packedOutcome (says v) → ChecksInC f s r
-checks f s v j r e = record {
-  returns = e ∙ ap (packedReply packedOutcome) (j .answers);
-  fits = judged-fits f s;
-  judges = (v, j);
-  holds = λ z. j .holds (held-zero (says v) (verdict-fits f s v j) (sym e ∙ z));
-}
+checks f s v j r e =
+    let held : r ≡ 0 → IsHeld (says v) = λ z. held-zero (says v) (verdict-fits f s v j) (sym e ∙ z) in
+    record {
+      returns = e ∙ ap (packedReply packedOutcome) (j .answers);
+      fits = judged-fits f s;
+      judges = (v, j);
+      holds = λ z. j .holds (held z);
+      bounds = λ z. j .bounds (held z);
+    }

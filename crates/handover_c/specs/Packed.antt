@@ -12,7 +12,7 @@ use Rattle.handover.specs.declared.StartAnswer.{StartAnswer}
 use Rattle.handover.specs.declared.StepAnswer.{StepAnswer}
 use Rattle.handover.specs.declared.Verdict.{Verdict}
 use Rattle.handover.specs.declared.WalkAnswer.{WalkAnswer}
-use Rattle.handover.specs.Front.{Outcome, held, rule, judged, Judges, Demand3}
+use Rattle.handover.specs.Front.{Outcome, held, rule, judged, Judges, Demand3, SetsBounded}
 use Rattle.handover.specs.Refusals.{Reply, done, refused, TableNumber, StartNumber, StepNumber, WalkNumber}
 use Rattle.handover.specs.Engine.{Left, startOf, stepOf, walkOf, StartPromise, StepPromise, WalkPromise}
 
@@ -92,8 +92,9 @@ pub record ChecksInC (f s : List ℕ) (r : ℕ) : Type 0 where
   pub fits : FitsReply FitsOutcome TableNumber (judged f s)
   -- it is the number of an answer that has the whole promise of the checker's entry
   pub judges : (v : Verdict) × Judges f s v
-  -- demand 3
+  -- demand 3, and 02's sentence on sets (request i)
   pub holds : r ≡ 0 → Demand3 f s
+  pub bounds : r ≡ 0 → SetsBounded f s
 
 -- the number, and every word of both lists
 pub record Leaves {A : Type 0} (Q : A → Type 0) (P : ℕ → Type 0) (f : A → ℕ) (o : Left A) (r : ℕ) (l ml : List ℕ) : Type 0 where

@@ -29,7 +29,7 @@ use Rattle.model.specs.Rules.{Table, Live, Rule2, Rule3, Rule4At, Claims
 use Rattle.model.specs.Rules.{FirstPair, FirstBroken, broken1, broken2, broken3, broken4, broken5}
 use Rattle.model.specs.Safe as Z
 use Rattle.model.specs.Safe.{Safe, Flows}
-use Rattle.model.specs.Cases.{A, B, D, tableA, table, claim, rowsA, weightsA, limits, joint, tableD, opened, thread, threeOfA, twiceBroken, H, tableH}
+use Rattle.model.specs.Cases.{A, B, D, tableA, table, claim, claimIn, rowsA, weightsA, limits, brimful, joint, tableD, opened, thread, threeOfA, twiceBroken, H, tableH}
 use Rattle.model.proofs.Verdict.{live-Live, first5}
 use Rattle.model.specs.Cases.{pair, lists, walkEnded, A₁, B₀, B₁, B₁₂, B₂, B₃, B₄, G, G₁, G₂, Row, Says}
 use Rattle.model.specs.Cases.{rows, setRows, safeRows, stepRows, walkRows, toldRows, laterRows}
@@ -135,6 +135,10 @@ safe-joint = record { flows = (flow3, (flow6, (flow6, tt))); balances = brim-bal
 unsafe-joint : Says (Row.unsafe A (joint 2) (threeOfA (opened 1)))
 unfolding computed table
 unsafe-joint s = let z : 3 ≤ 2 = s .claims 1 (omega arith) in absurd (omega (arith, z))
+
+unsafe-first : Says (Row.unsafe A (brimful (claimIn 7 6 1 ∷ [])) (threeOfA (opened 1)))
+unfolding computed table
+unsafe-first s = let z : 2 ≤ 1 = s .claims 0 (omega arith) in absurd (omega (arith, z))
 
 sums-joint : Says (Row.sums A (joint 2) 1 (threeOfA (opened 1)) 3)
 unfolding computed table
@@ -364,7 +368,7 @@ cases = (refl, (refl, (refl, (refl, (refl, (refl, (refl, (refl, (refl, (refl, (r
 
 pub set-cases : All Says setRows
 unfolding computed table
-set-cases = (refl, (refl, (refl, (safe-joint, (unsafe-joint, (sums-joint, tt))))))
+set-cases = (refl, (refl, (refl, (safe-joint, (unsafe-joint, (unsafe-first, (sums-joint, tt)))))))
 
 pub safe-cases : All Says safeRows
 safe-cases = (safe-brim, (unsafe-claim, (unsafe-bound, (unsafe-row, (unsafe-opening, tt)))))

@@ -195,11 +195,12 @@ abbrev pub limits : List ℕ → ℕ → ℕ → Table
 limits row2 bound most =
     table ((0 ∷ []) ∷ (1 ∷ []) ∷ row2 ∷ []) bound (0 ∷ 0 ∷ 0 ∷ 3 ∷ 0 ∷ 0 ∷ 65535 ∷ 0 ∷ []) (claim 3 1 ∷ claim 6 most ∷ [])
 
--- the same rows and weights, filled to the brim, and one set of agents 3 and 6, where 6 is named twice
+-- the same rows and weights, filled to the brim, with other claims; one set of agents 3 and 6, where 6 is named twice
+abbrev pub brimful : List Claim → Table
+brimful = table ((0 ∷ []) ∷ (1 ∷ []) ∷ (1 ∷ []) ∷ []) 131073 (0 ∷ 0 ∷ 0 ∷ 3 ∷ 0 ∷ 0 ∷ 65535 ∷ 0 ∷ [])
+
 abbrev pub joint : ℕ → Table
-joint most =
-    table ((0 ∷ []) ∷ (1 ∷ []) ∷ (1 ∷ []) ∷ []) 131073 (0 ∷ 0 ∷ 0 ∷ 3 ∷ 0 ∷ 0 ∷ 65535 ∷ 0 ∷ [])
-    (claimIn 7 3 most ∷ claimIn 7 6 most ∷ claimIn 7 6 most ∷ [])
+joint most = brimful (claimIn 7 3 most ∷ claimIn 7 6 most ∷ claimIn 7 6 most ∷ [])
 
 -- D with weights of its resource's senders 5 and 6, and of 10, which it leaves
 abbrev pub tableD : ℕ → ℕ → ℕ → Table
@@ -297,6 +298,8 @@ setRows =
     -- A set's threads are counted together, an agent that is named twice once: one thread of 3 and two of 6 are three.
     ∷ safe A (joint 3) (threeOfA (opened 1))
     ∷ unsafe A (joint 2) (threeOfA (opened 1))
+    -- So are those of a set of one claim, also the first of the table.
+    ∷ unsafe A (brimful (claimIn 7 6 1 ∷ [])) (threeOfA (opened 1))
     ∷ sums A (joint 2) 1 (threeOfA (opened 1)) 3
     ∷ []
 
