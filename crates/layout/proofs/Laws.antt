@@ -1,6 +1,6 @@
 -- Where balances stand: one after another, before the claims; that the claims of a table that fits its file lie in it, and that a claim
 -- that is written is read back.
-use Prim.Native.Nat.{ℕ, _+_, _*_, _/_, _%_, _≤_, _<_}
+use Prim.Native.Nat.{ℕ, _+_, _*_, _≤_, _<_}
 use native.Mathlib.Nat.{add-zero, add-assoc, mul-le-mul, mul-le-mul-right, suc-mul}
 use native.Mathlib.Numerals.{add-one}
 use native.Mathlib.Omega.{arith}
@@ -10,6 +10,7 @@ use lib.ListN.{length, getD}
 use Rattle.laws.specs.Lists.{put}
 use Rattle.laws.proofs.Put.{getD-written}
 use Rattle.wire.specs.Numbers.{u16At, le16}
+use Rattle.wire.proofs.Written.{two-bytes}
 use Rattle.model.specs.declared.Claim.{Claim}
 use Rattle.records.specs.declared.Trailer.{Trailer}
 use Rattle.layout.specs.declared.Sizes.{Sizes}
@@ -36,18 +37,17 @@ claims-lie t s z m n l = record {
   inside = omega (arith, l .fills);
 }
 
-two-bytes : (s : List ℕ) (at k n : ℕ) → n < 65536 → getD s (at + k) 0 ≡ n % 256 → getD s (at + (k + 1)) 0 ≡ n / 256 % 256 → u16At s (at + k) ≡ n
-unfolding u16At
-two-bytes s at k n small e f = let g = ap (λ (j : ℕ). getD s j 0) (add-assoc at k 1) ∙ f in omega arith
-
 -- a claim's four numbers, written one after another, are read back
 pub claim-back : (s : List ℕ) (at : ℕ) (x : Claim) → at + 8 ≤ length s → x .agent < 65536 → x .most < 65536 → x .balance < 65536 → x .set < 65536
     → claimOf (put at (le16 (x .agent) ++ (le16 (x .most) ++ (le16 (x .balance) ++ le16 (x .set)))) s) at ≡ x
 claim-back s at x h agent most balance set =
     let xs = le16 (x .agent) ++ (le16 (x .most) ++ (le16 (x .balance) ++ le16 (x .set))) in
-    let byte : (k : ℕ) → k < 8 → getD (put at xs s) (at + k) 0 ≡ getD xs k 0 = λ k l. getD-written at xs s k 0 (omega (arith, h)) l in
-    let p = two-bytes (put at xs s) at 0 (x .agent) agent (byte 0 (omega arith)) (byte 1 (omega arith)) in
-    let q = two-bytes (put at xs s) at 2 (x .most) most (byte 2 (omega arith)) (byte 3 (omega arith)) in
-    let r = two-bytes (put at xs s) at 4 (x .balance) balance (byte 4 (omega arith)) (byte 5 (omega arith)) in
-    let t = two-bytes (put at xs s) at 6 (x .set) set (byte 6 (omega arith)) (byte 7 (omega arith)) in
-    λ i. record { agent = (ap (u16At (put at xs s)) (sym (add-zero at)) ∙ p) i; most = q i; balance = r i; set = t i }
+    let s′ = put at xs s in
+    let byte : (k : ℕ) → k < 8 → getD s′ (at + k) 0 ≡ getD xs k 0 = λ k l. getD-written at xs s k 0 (omega (arith, h)) l in
+    let next : (k : ℕ) → k < 7 → getD s′ (at + k + 1) 0 ≡ getD xs (k + 1) 0 =
+    λ k l. ap (λ (j : ℕ). getD s′ j 0) (add-assoc at k 1) ∙ byte (k + 1) (omega (arith, l)) in
+    let a = two-bytes s′ (at + 0) (x .agent) agent (byte 0 (omega arith)) (next 0 (omega arith)) in
+    let m = two-bytes s′ (at + 2) (x .most) most (byte 2 (omega arith)) (next 2 (omega arith)) in
+    let b = two-bytes s′ (at + 4) (x .balance) balance (byte 4 (omega arith)) (next 4 (omega arith)) in
+    let n = two-bytes s′ (at + 6) (x .set) set (byte 6 (omega arith)) (next 6 (omega arith)) in
+    λ i. record { agent = (ap (u16At s′) (sym (add-zero at)) ∙ a) i; most = m i; balance = b i; set = n i }

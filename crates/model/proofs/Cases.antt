@@ -29,7 +29,8 @@ use Rattle.model.specs.Rules.{Table, Live, Rule2, Rule3, Rule4At, Claims
 use Rattle.model.specs.Rules.{FirstPair, FirstBroken, broken1, broken2, broken3, broken4, broken5}
 use Rattle.model.specs.Safe as Z
 use Rattle.model.specs.Safe.{Safe, Flows}
-use Rattle.model.specs.Cases.{A, B, D, tableA, table, claim, claimIn, rowsA, weightsA, limits, brimful, joint, tableD, opened, thread, threeOfA, twiceBroken, H, tableH}
+use Rattle.model.specs.Cases.{A, B, D, tableA, table, claim, claimIn, rowsA, weightsA}
+use Rattle.model.specs.Cases.{limits, brimful, joint, tableD, opened, thread, threeOfA, twiceBroken, H, tableH}
 use Rattle.model.proofs.Verdict.{live-Live, first5}
 use Rattle.model.specs.Cases.{pair, lists, walkEnded, A₁, B₀, B₁, B₁₂, B₂, B₃, B₄, G, G₁, G₂, Row, Says}
 use Rattle.model.specs.Cases.{rows, setRows, safeRows, stepRows, walkRows, toldRows, laterRows}

@@ -10,13 +10,16 @@ use Rattle.laws.specs.Lists.{put}
 use Rattle.laws.proofs.Put.{getD-written, take-put}
 use Rattle.wire.specs.Numbers.{u16At, u32At, wordSum, le16, le32, sealOf, sealed}
 
-pub number-back : (s : List ℕ) (at n : ℕ) → at + 1 < length s → n < 65536 → u16At (put at (le16 n) s) at ≡ n
+-- a number by its two bytes
+pub two-bytes : (s : List ℕ) (at n : ℕ) → n < 65536 → getD s at 0 ≡ n % 256 → getD s (at + 1) 0 ≡ n / 256 % 256 → u16At s at ≡ n
 unfolding u16At
+two-bytes s at n small e f = omega arith
+
+pub number-back : (s : List ℕ) (at n : ℕ) → at + 1 < length s → n < 65536 → u16At (put at (le16 n) s) at ≡ n
 number-back s at n h small =
     let f = getD-written at (le16 n) s 0 0 (omega arith) (omega arith) in
     let g = getD-written at (le16 n) s 1 0 (omega arith) (omega arith) in
-    let e : getD (put at (le16 n) s) at 0 ≡ n % 256 = ap (λ (k : ℕ). getD (put at (le16 n) s) k 0) (sym (add-zero at)) ∙ f in
-    omega arith
+    two-bytes (put at (le16 n) s) at n small (ap (λ (k : ℕ). getD (put at (le16 n) s) k 0) (sym (add-zero at)) ∙ f) g
 
 digits : (n : ℕ) → n < 4294967296 → n % 256 + 256 * (n / 256 % 256) + 65536 * (n / 65536 % 256) + 16777216 * (n / 16777216 % 256) ≡ n
 digits n small =
