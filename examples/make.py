@@ -64,7 +64,13 @@ def balance_of(text, nodes):
 
 def claim_of(text):
     """6 most 1 in 0, or 6 most 1 in 0 set 3"""
-    return claim(*map(int, re.fullmatch(r"(\d+) most (\d+) in (\d+)(?: set (\d+))?", text).groups(default=0)))
+    return tuple(map(int, re.fullmatch(r"(\d+) most (\d+) in (\d+)(?: set (\d+))?", text).groups(default=0)))
+
+
+def claims_of(texts):
+    """In the order that a table has, by set, agent, most and balance, each once; a design may list them as it likes."""
+    found = {claim_of(text) for text, _ in texts}
+    return [claim(*numbers) for numbers in sorted(found, key=lambda x: (x[3], *x[:3]))]
 
 
 def table_of(array, parts, number):
@@ -74,7 +80,7 @@ def table_of(array, parts, number):
         rows[number[name]] = row(*(number[word] for word in words_in(openings)))
     assert all(rows), "a name without a row"
     balances = [balance_of(text, len(parts["nodes"])) for text, _ in parts["balances"]]
-    return pic(array, rows, balances, [claim_of(text) for text, _ in parts["claims"]])
+    return pic(array, rows, balances, claims_of(parts["claims"]))
 
 
 def labels_of(parts):

@@ -74,14 +74,24 @@ many = FILES["many"]
 own = [row(o) for o in range(253)]
 
 
-def of_sets(*claims):
+def of_sets(*claims, weights=bal):
     """A's table with other claims, each an agent, a most and a set."""
-    return pic(a, rows, [bal], [claim(agent, most, 0, of) for agent, most, of in claims])
+    return pic(a, rows, [weights], [claim(agent, most, 0, of) for agent, most, of in claims])
+
+
+def of_five(*claims):
+    """The same where 5 alone has a weight, so that of a set of 5 and 6 the later claim is not met by itself."""
+    return of_sets(*claims, weights=balance(1, {5: 1}, 8))
+
+
+def of_two(*claims):
+    """A's table with its balance twice, and other claims, each an agent, a most and a balance."""
+    return pic(a, rows, [bal] * 2, [claim(*numbers) for numbers in claims])
 
 
 def second(w6):
     """A's table with a second balance, of greater numbers, and a claim on it: w6 x 234 against 70,000."""
-    return pic(a, rows, [bal, balance(70000, {5: 300, 6: w6}, 8)], [claim(6, 1), claim(6, 233, 1), claim(6, 1)])
+    return pic(a, rows, [bal, balance(70000, {5: 300, 6: w6}, 8)], [claim(6, 1), claim(6, 233, 1), claim(6, 234, 1)])
 
 
 CASES = [
@@ -102,7 +112,7 @@ CASES = [
     ("A", "A-rule-1-lowest", pic(a, [row(), row(), row(1)], [bal]), "rule 1 0"),
     ("A", "A-second-bound", pic(a, rows, [bal, balance(0, {5: 1}, 8)]), "rule 2 1"),
     ("A", "A-second-balance", pic(a, rows, [bal, balance(1, {5: 1, 6: 2}, 8)]), "rule 4 5 3 1"),
-    ("A", "A-second-claim", pic(a, rows, [bal], [claim(6, 1), claim(5, 0), claim(6, 1)]), "rule 5 1"),
+    ("A", "A-second-claim", pic(a, rows, [bal], [claim(5, 1), claim(6, 0), claim(6, 1)]), "rule 5 1"),
     ("A", "A-weightless-claim", pic(a, rows, [bal], [claim(3, 65535)]), "rule 5 0"),
     ("A", "A-claim-reached", pic(a, rows, [balance(2, {6: 2, 5: 2}, 8)], [claim(6, 0)]), "rule 5 0"),
     ("A", "A-weight-65535", pic(a, rows, [balance(65535, {5: 65535, 6: 65535}, 8)], [claim(6, 1)]), "held 8 3 1 1"),
@@ -132,24 +142,23 @@ CASES = [
     # sets: the least weight x (most + 1) against bound 1. Agents 5 and 6 weigh 1, agent 3 nothing.
     ("A", "A-set", of_sets((5, 1, 1), (6, 1, 1)), "held 8 3 1 2"),
     ("A", "A-set-most-0", of_sets((5, 0, 1), (6, 0, 1)), "rule 5 0"),
-    ("A", "A-set-weightless", of_sets((6, 65535, 0), (6, 65535, 4), (3, 65535, 4)), "rule 5 1"),
-    ("A", "A-set-named-twice", of_sets((6, 1, 1), (6, 1, 1)), "held 8 3 1 2"),
+    ("A", "A-set-weightless", of_five((5, 65535, 0), (5, 65535, 4), (6, 65535, 4)), "rule 5 1"),
     # claims of set 0 stand alone: of one agent with different mosts, and beside a set
-    ("A", "A-set-0", of_sets((6, 1, 0), (6, 2, 0), (5, 1, 0)), "held 8 3 1 3"),
-    ("A", "A-set-0-reached", of_sets((6, 2, 0), (6, 0, 0)), "rule 5 1"),
-    # the set's first claim is named, wherever its claims lie, and of two sets the lower first claim
-    ("A", "A-set-apart", of_sets((5, 1, 1), (6, 1, 2), (6, 1, 1)), "held 8 3 1 3"),
-    ("A", "A-set-apart-weightless", of_sets((5, 1, 5), (6, 1, 7), (3, 1, 7), (6, 1, 5)), "rule 5 1"),
-    ("A", "A-sets-nested", of_sets((6, 1, 5), (6, 1, 7), (3, 1, 7), (3, 1, 5)), "rule 5 0"),
+    ("A", "A-set-0", of_sets((5, 1, 0), (6, 1, 0), (6, 2, 0)), "held 8 3 1 3"),
+    ("A", "A-set-0-reached", of_sets((5, 1, 0), (6, 0, 0), (6, 2, 0)), "rule 5 1"),
+    # the set's first claim is named, and of two sets the lower first claim; a claim alone before them
+    ("A", "A-sets-side-by-side", of_sets((5, 1, 1), (6, 1, 1), (5, 2, 2), (6, 2, 2)), "held 8 3 1 4"),
+    ("A", "A-sets-second-weightless", of_five((5, 1, 5), (5, 1, 7), (6, 1, 7)), "rule 5 1"),
+    ("A", "A-sets-both-weightless", of_five((5, 1, 5), (6, 1, 5), (5, 1, 7), (6, 1, 7)), "rule 5 0"),
+    ("A", "A-alone-weightless-first", of_five((5, 1, 0), (6, 1, 0), (5, 1, 7), (6, 1, 7)), "rule 5 1"),
     # a set's number is all of its 16 bits: 1 and 2, and 1 with each other bit, are sets with mosts of their own
     ("A", "A-sets-of-each-bit", of_sets((6, 1, 1), (6, 40, 2), *[(6, 1 + k, 1 + 2 ** k) for k in range(1, 16)]), "held 8 3 1 17"),
     ("A", "A-sets-1-257", of_sets((5, 1, 1), (6, 2, 257)), "held 8 3 1 2"),
     ("A", "A-sets-256-512", of_sets((5, 1, 256), (6, 2, 512)), "held 8 3 1 2"),
-    ("A", "A-set-256", of_sets((6, 1, 256), (6, 1, 512), (3, 1, 256)), "rule 5 0"),
-    # all claims of one set, and each of its own
-    ("A", "A-set-of-256", of_sets(*[(6, 1, 9)] * 256), "held 8 3 1 256"),
+    ("A", "A-set-256", of_five((5, 1, 256), (6, 1, 256), (5, 1, 512)), "rule 5 0"),
+    # each claim of a set of its own
     ("A", "A-256-sets", of_sets(*[(6, 1, 257 * i) for i in range(256)]), "held 8 3 1 256"),
-    ("A", "A-256-sets-last", of_sets(*[(6, 1, 256 - i) for i in range(255)], (6, 0, 300)), "rule 5 255"),
+    ("A", "A-256-sets-last", of_sets(*[(6, 1, 1 + i) for i in range(255)], (6, 0, 300)), "rule 5 255"),
     # in the set's balance, bound 70,000, the least weight is 299 and the greatest 300: 299 x 234 = 69,966, 299 x 235 = 70,265
     ("A", "A-set-on-second-reached", pic(a, rows, [bal, balance(70000, {5: 300, 6: 299}, 8)], [claim(i, 233, 1, 3) for i in (5, 6)]), "rule 5 0"),
     ("A", "A-set-on-second", pic(a, rows, [bal, balance(70000, {5: 300, 6: 299}, 8)], [claim(i, 234, 1, 3) for i in (5, 6)]), "held 8 3 2 2"),
@@ -177,7 +186,7 @@ CASES = [
     ("A", "A-K-25", pic(a, rows, [bal] * 25), "refused 15 0"),
     ("A", "A-K-24", pic(a, rows, [bal] * 24), "held 8 3 24 0"),
     ("A", "A-Q-257", pic(a, rows, [bal], [claim(6, 1)] * 257), "refused 15 0"),
-    ("A", "A-Q-256", pic(a, rows, [bal], [claim(6, 1)] * 256), "held 8 3 1 256"),
+    ("A", "A-Q-256", pic(a, rows, [bal], [claim(6, 1 + i) for i in range(256)]), "held 8 3 1 256"),
     ("A", "A-K-65535", pic(a, rows, [bal], counts=(65535, 65535)), "refused 15 0"),
     # 16: parts
     ("A", "A-rows-at-4", pic(a, rows, [bal], starts=(4, 96, 116)), "refused 16 0"),
@@ -207,7 +216,7 @@ CASES = [
     ("A", "A-claim-balance-K", pic(a, rows, [bal], [claim(6, 1, 1)]), "refused 21 0"),
     ("A", "A-claim-no-balance", pic(a, rows, [], [claim(6, 1)]), "refused 21 0"),
     # a last number other than 0 is a set's: a set of one claim
-    ("A", "A-claim-last", pic(a, rows, [bal], [claim(6, 1), claim(6, 1), claim(6, 1, 0, 1)]), "held 8 3 1 3"),
+    ("A", "A-claim-last", pic(a, rows, [bal], [claim(6, 1), claim(6, 2), claim(6, 1, 0, 1)]), "held 8 3 1 3"),
     # and so are the others: 65,535 x 65,536 exceeds the bound by 1; an agent and a balance with a bit too many
     ("A", "A-most-65535", pic(a, rows, [balance(4294901759, {5: 65535, 6: 65535}, 8)], [claim(6, 65535)]), "held 8 3 1 1"),
     ("A", "A-claim-of-1030", pic(a, rows, [bal], [claim(1030, 1)]), "refused 21 0"),
@@ -225,6 +234,35 @@ CASES = [
     # 21 over all claims before 30 over any, and 30 before the rules
     ("A", "A-21-first", of_sets((5, 1, 1), (6, 2, 1), (2, 1, 0)), "refused 21 2"),
     ("A", "A-30-first", of_sets((3, 0, 0), (5, 1, 1), (6, 2, 1)), "refused 30 2"),
+    # 31: claims rise by set, then agent, then most, then balance; each number decides, whatever those after it do
+    ("A", "A-order-set", of_sets((6, 2, 1), (5, 1, 2)), "held 8 3 1 2"),
+    ("A", "A-order-set-falls", of_sets((5, 1, 2), (6, 2, 1)), "refused 31 1"),
+    ("A", "A-order-set-0-last", of_sets((5, 1, 1), (6, 2, 0)), "refused 31 1"),
+    ("A", "A-order-agent", of_two((5, 2, 1), (6, 1, 0)), "held 8 3 2 2"),
+    ("A", "A-order-agent-falls", of_two((6, 1, 0), (5, 2, 1)), "refused 31 1"),
+    ("A", "A-order-agent-falls-in-set", of_sets((6, 1, 1), (5, 1, 1)), "refused 31 1"),
+    ("A", "A-order-most", of_two((6, 1, 1), (6, 2, 0)), "held 8 3 2 2"),
+    ("A", "A-order-most-falls", of_two((6, 2, 0), (6, 1, 1)), "refused 31 1"),
+    ("A", "A-order-balance", of_two((6, 1, 0), (6, 1, 1)), "held 8 3 2 2"),
+    ("A", "A-order-balance-falls", of_two((6, 1, 1), (6, 1, 0)), "refused 31 1"),
+    # and not by a byte of theirs
+    ("A", "A-order-set-255-256", of_sets((6, 1, 255), (6, 1, 256)), "held 8 3 1 2"),
+    ("A", "A-order-set-256-255", of_sets((6, 1, 256), (6, 1, 255)), "refused 31 1"),
+    ("A", "A-order-set-65535-1", of_sets((6, 1, 65535), (6, 1, 1)), "refused 31 1"),
+    ("A", "A-order-most-511-768", of_sets((6, 511, 0), (6, 768, 0)), "held 8 3 1 2"),
+    ("A", "A-order-most-768-511", of_sets((6, 768, 0), (6, 511, 0)), "refused 31 1"),
+    # repeats: alone, in a set, and in a set that other claims part
+    ("A", "A-repeat", of_sets((6, 1, 0), (6, 1, 0)), "refused 31 1"),
+    ("A", "A-set-named-twice", of_sets((6, 1, 1), (6, 1, 1)), "refused 31 1"),
+    ("A", "A-set-apart", of_sets((5, 1, 1), (6, 1, 2), (6, 1, 1)), "refused 31 2"),
+    ("A", "A-set-of-256", of_sets(*[(6, 1, 9)] * 256), "refused 31 1"),
+    # the lowest claim that does not come after the one before it, and not where it belongs; the last of many
+    ("A", "A-order-lowest", of_sets((5, 1, 0), (6, 2, 0), (6, 1, 0), (6, 3, 0), (6, 3, 0)), "refused 31 2"),
+    ("A", "A-order-last", of_sets(*[(6, 2 + i, 0) for i in range(255)], (5, 1, 0)), "refused 31 255"),
+    # 21 and 30 over all claims before 31 over any, and 31 before the rules
+    ("A", "A-21-before-31", of_sets((6, 1, 0), (6, 1, 0), (2, 1, 0)), "refused 21 2"),
+    ("A", "A-30-before-31", of_sets((6, 1, 0), (6, 1, 0), (5, 1, 3), (6, 2, 3)), "refused 30 3"),
+    ("A", "A-31-first", pic(a, [row(), row(), row(1)], [balance(0, one, 8)], [claim(6, 0)] * 2), "refused 31 1"),
     # 19 before 20 before 21
     ("A", "A-19-first", pic(a, [row(0), row(1), row(2)], [balance(1, {2: 1}, 8)], [claim(2, 1)]), "refused 19 2"),
     ("A", "A-20-first", pic(a, rows, [balance(1, {2: 1}, 8)], [claim(2, 1)]), "refused 20 0"),
@@ -233,11 +271,11 @@ CASES = [
 # What the table reader says: M, N, K and Q, also of a table that breaks a rule; or the refusal.
 SIZES = [
     ("A", "A", table, "read 8 3 1 1"),
-    ("A", "A-four-sizes", pic(a, rows, [bal] * 2, [claim(6, 1)] * 5), "read 8 3 2 5"),
+    ("A", "A-four-sizes", pic(a, rows, [bal] * 2, [claim(6, 1 + i) for i in range(5)]), "read 8 3 2 5"),
     ("B", "B", pic(b, [row(0)], [balance(1, {2: 1, 5: 1}, 7)]), "read 7 1 1 0"),
     ("stop", "stop", pic(FILES["stop"], []), "read 1 0 0 0"),
-    ("A", "A-most-of-both", pic(a, rows, [bal] * 24, [claim(6, 1)] * 256), "read 8 3 24 256"),
-    ("A", "A-bound-0", pic(a, rows, [balance(0, one, 8)], [claim(6, 0)] * 3), "read 8 3 1 3"),
+    ("A", "A-most-of-both", pic(a, rows, [bal] * 24, [claim(6, 1, i % 24, i) for i in range(256)]), "read 8 3 24 256"),
+    ("A", "A-bound-0", pic(a, rows, [balance(0, one, 8)], [claim(6, i) for i in range(3)]), "read 8 3 1 3"),
     ("A", "A-no-rows", pic(a, [row()] * 3, [bal] * 2), "read 8 3 2 0"),
     # the array first
     ("broken", "array-first", b"", "refused 11 3"),
@@ -260,6 +298,9 @@ SIZES = [
     ("A", "A-set-most-0", of_sets((5, 0, 1), (6, 0, 1)), "read 8 3 1 2"),
     ("A", "A-set-mosts", of_sets(*[(6, 1, 0)] * 3, (6, 1, 5), (6, 0, 5)), "refused 30 4"),
     ("A", "A-21-first", of_sets((5, 1, 1), (6, 2, 1), (2, 1, 0)), "refused 21 2"),
+    # 31 at a place, after 30
+    ("A", "A-order", of_sets((5, 1, 0), (6, 1, 0), (6, 1, 4), (5, 1, 4), (5, 1, 4)), "refused 31 3"),
+    ("A", "A-30-before-31", of_sets((6, 1, 0), (6, 1, 0), (5, 1, 3), (6, 2, 3)), "refused 30 3"),
 ]
 
 

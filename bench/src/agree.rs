@@ -6,6 +6,7 @@ use crate::loops::{self, Lent, Loaded};
 use crate::versions::{agreed, Call, Case};
 use outside::files::repair;
 use outside::random::Random;
+use outside::{arrays, damage, parts, tables};
 use std::collections::BTreeSet;
 
 /// Small numbers are as likely as all others together.
@@ -70,7 +71,23 @@ fn checks_agree() {
         case.call = Call::Read;
         agreed(&case);
     }
-    met(&codes, (0..=5).chain(101..=121).chain([130]));
+    met(&codes, (0..=5).chain(101..=121).chain([130, 131]));
+}
+
+/// Claims with faults of 21, 30 and 31, alone and together.
+#[test]
+fn claims_agree() {
+    let mut codes = BTreeSet::new();
+    for round in 0..20_000 {
+        let mut random = Random::of(3, 0, round);
+        let array = arrays::busy(&mut random).bytes();
+        let table = tables::accepted(&mut random, &parts::read(&array));
+        let faults = random.pick(&[&[][..], &[30], &[31], &[30, 31], &[21, 31], &[21, 30, 31]]);
+        let table = damage::table(&mut random, &table, faults);
+        let case = Case { array, table, choices: vec![], lent: Lent::default(), call: Call::Check };
+        codes.insert(agreed(&case) & 0xff);
+    }
+    met(&codes, [0, 121, 130, 131].into_iter());
 }
 
 /// Lets the table name the array's word sum.

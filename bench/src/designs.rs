@@ -1,7 +1,8 @@
 //! The designs of the checker: array and table. Each has weight 1 for every agent in K balances of bound 2,
 //! 256 claims where K isn't 0, and is held, but for `broken`; so every live pair is looked at.
 
-use crate::files::{array_file, chain, record, table_file, Agent, Balance, Record, IN, NEW, OUT, PAR};
+use crate::files::{array_file, chain, record, table_file, Agent, Balance, Claim, Record, IN, NEW, OUT, PAR};
+use outside::order;
 
 pub struct Files {
     pub array: Vec<u8>,
@@ -32,11 +33,23 @@ const ALONE: Sets = |_| 0;
 
 fn files(records: &[Record], rows: &[[u64; 4]], balances: &[Balance], set: Sets) -> Files {
     let array = array_file(records, rows.len());
-    let agents: Vec<usize> = (0..records.len()).filter(|i| records[*i].is_agent()).collect();
-    let count = if balances.is_empty() { 0 } else { 256 };
-    let claim = |c: usize| [agents[c % agents.len()] as u16, u16::MAX, (c % balances.len()) as u16, set(c)];
-    let table = table_file(&array, rows, balances, (0..count).map(claim).collect());
+    let claims = claims(records, balances.len(), set);
+    let table = table_file(&array, rows, balances, claims);
     Files { array, table, nodes: records.len(), names: rows.len(), balances: balances.len() }
+}
+
+/// 256 claims over the agents in turn. An agent that comes again has a lower most where it stands alone; in a set it
+/// stands once, so that a set has no more claims than there are agents.
+fn claims(records: &[Record], balances: usize, set: Sets) -> Vec<Claim> {
+    let agents: Vec<usize> = (0..records.len()).filter(|i| records[*i].is_agent()).collect();
+    let claim = |c: usize| {
+        let set = set(c);
+        let again = if set == 0 { c / agents.len() } else { 0 };
+        [agents[c % agents.len()] as u16, u16::MAX - again as u16, (c % balances) as u16, set]
+    };
+    let mut claims: Vec<Claim> = (0..if balances == 0 { 0 } else { 256 }).map(claim).collect();
+    order::put(&mut claims);
+    claims
 }
 
 fn held(records: &[Record], rows: &[[u64; 4]], balances: usize) -> Files {

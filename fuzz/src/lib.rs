@@ -8,11 +8,13 @@ mod calls;
 mod input;
 
 use input::Input;
-use outside::{files, packed};
+use outside::{files, order, packed};
 
 /// The word sums are made right, so that what comes after them is reached.
 const REPAIR_ARRAY: u8 = 1;
 const REPAIR_TABLE: u8 = 2;
+/// The claims are sorted, so that the rules are reached.
+const SORT_CLAIMS: u8 = 4;
 
 /// # Safety
 /// `data` points at `length` bytes.
@@ -31,6 +33,9 @@ fn compare(mut input: Input) {
     if flags & REPAIR_ARRAY != 0 {
         files::repair(&mut array);
     }
+    if flags & SORT_CLAIMS != 0 {
+        sort_claims(&mut table);
+    }
     if flags & REPAIR_TABLE != 0 {
         name_array(&array, &mut table);
         files::repair(&mut table);
@@ -38,6 +43,19 @@ fn compare(mut input: Input) {
     assert_eq!(handover::remark(&array), plain::remark(&array).len(), "the remark's length");
     assert_eq!(handover::check(&array, &table), packed::verdict(&plain::check(&array, &table)), "the verdict");
     calls::compare(&array, input);
+}
+
+/// Puts the claims in order, wherever the trailer has them lie. Repeats stay.
+fn sort_claims(table: &mut [u8]) {
+    let Some(end) = table.len().checked_sub(files::TRAILER) else { return };
+    let start = Input(&table[end + 8..]).word() as usize;
+    let rank = |claim: &[u8; files::CLAIM]| {
+        let mut numbers = Input(claim);
+        order::rank(&[(); 4].map(|()| numbers.short()))
+    };
+    if let Some(claims) = table.get_mut(start..end) {
+        claims.as_chunks_mut().0.sort_by_key(rank);
+    }
 }
 
 /// Copies the array's word sum to the place in the table's trailer that names it.

@@ -119,6 +119,16 @@ pub fn wide(random: &mut Random, threads: usize) -> ArrayFile {
     ArrayFile { remark: Vec::new(), records, names: 1 }
 }
 
+/// One thread at a time: agents one after the other, on one channel without arguments.
+pub fn line(random: &mut Random, agents: usize) -> ArrayFile {
+    let mut records = vec![node(NEW, 1, 0)];
+    for i in 1..=agents {
+        records.push(node(random.pick(&[OUT, IN, RESOURCE]), i + 1, 0));
+    }
+    records.push(node(STOP, 0, 0));
+    ArrayFile { remark: Vec::new(), records, names: 1 }
+}
+
 fn node(kind: u8, left: usize, right: usize) -> Record {
     Record { kind, left, right, ..Record::default() }
 }
@@ -256,7 +266,9 @@ mod tests {
 
     #[test]
     fn arrays_are_valid() {
-        for make in [small, busy, large, |random: &mut Random| wide(random, 257)] {
+        for make in
+            [small, busy, large, |random: &mut Random| wide(random, 257), |random: &mut Random| line(random, 300)]
+        {
             assert_eq!(count(make, |_| true), 400);
         }
     }

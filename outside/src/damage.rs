@@ -4,7 +4,7 @@
 use crate::claims::NUMBERS;
 use crate::files::{repair, ArrayFile, Record, TableFile, CLAIM, IN, NEW, OUT, RECORD, ROW, STOP};
 use crate::random::Random;
-use crate::sets;
+use crate::{disorder, sets};
 
 /// Writes a 16-bit number that takes any value.
 fn put(file: &mut [u8], at: usize, value: usize) {
@@ -162,9 +162,14 @@ fn name_fault(random: &mut Random, array: &ArrayFile, file: &mut [u8], i: usize,
     file[at] = name as u8;
 }
 
-/// The table file with the faults named, numbers 13 to 21 and 30. Each fault of a part is made up to three times.
+/// The table file with the faults named, numbers 13 to 21, 30 and 31. Each fault of a part is made up to three times.
 pub fn table(random: &mut Random, table: &TableFile, faults: &[u8]) -> Vec<u8> {
-    let table = beyond_table(random, table, faults);
+    let mut table = beyond_table(random, table, faults);
+    if faults.contains(&31) {
+        for _ in 0..random.between(1, 3) {
+            disorder::fault(random, &mut table);
+        }
+    }
     let mut file = table.bytes();
     for number in [19, 20, 21, 30] {
         if faults.contains(&number) {
@@ -188,7 +193,8 @@ fn beyond_table(random: &mut Random, table: &TableFile, faults: &[u8]) -> TableF
         if let (Some(balance), true) = (table.balances.first().cloned(), random.once_in(2)) {
             table.balances.resize(25, balance);
         } else if let Some(claim) = table.claims.first().copied() {
-            table.claims.resize(257, claim);
+            // Each of a set of its own, in order.
+            table.claims = (1..=257).map(|set| [claim[0], claim[1], claim[2], set]).collect();
         }
     }
     table

@@ -14,8 +14,10 @@ pub const TRAILER: usize = 28;
 
 /// A claim's numbers: agent, most, balance, set.
 pub type Claim = [u16; 4];
-/// Where two of them stand.
+/// Where they stand.
+pub const AGENT: usize = 0;
 pub const MOST: usize = 1;
+pub const BALANCE: usize = 2;
 pub const SET: usize = 3;
 
 /// A node's record; fields that the kind does not use are 0 or empty.

@@ -4,9 +4,11 @@
 pub mod arrays;
 pub mod claims;
 pub mod damage;
+pub mod disorder;
 pub mod files;
 pub mod guarded;
 pub mod lists;
+pub mod order;
 pub mod packed;
 pub mod parts;
 pub mod random;

@@ -3,13 +3,13 @@
 use handover::Lists as Lent;
 use plain::engine;
 
+use crate::files::TableFile;
 use crate::guarded::{Region, Side};
 use crate::lists::Lists;
-use crate::packed;
 use crate::random::Random;
-use crate::sets;
 use crate::tally::{Tally, CHECK, START, STEP, WALK};
 use crate::watch::{begin_call, begin_round, fail, hex};
+use crate::{order, packed, sets};
 
 pub struct Run {
     pub random: Random,
@@ -94,8 +94,19 @@ impl Run {
             fail(&what, &[("array", hex(array.to_vec())), ("table", hex(table.to_vec()))]);
         }
         self.tally.add(CHECK, answer);
-        sets::count(&mut self.tally, answer, table);
+        self.count_claims(answer, table);
         answer
+    }
+
+    /// A table with one of these answers has its parts where its trailer says.
+    fn count_claims(&mut self, answer: u64, table: &[u8]) {
+        let code = handover::code(answer);
+        if [0, 5, 121, 130, 131].contains(&code) {
+            let table = TableFile::read(table);
+            let place = handover::figures(answer)[0] as usize;
+            sets::count(&mut self.tally, code, place, &table);
+            order::count(&mut self.tally, code, place, &table.claims);
+        }
     }
 
     pub fn remark(&mut self, array: &[u8]) {

@@ -26,7 +26,7 @@ pub fn is_first(claims: &[Claim], c: usize) -> bool {
 }
 
 /// Whether claim c differs from an earlier one of its set in most or balance.
-fn clashes(claims: &[Claim], c: usize) -> bool {
+pub fn clashes(claims: &[Claim], c: usize) -> bool {
     (0..c).any(|d| together(claims, c, d) && claims[c][1..3] != claims[d][1..3])
 }
 
@@ -54,14 +54,8 @@ pub fn holds_alone(table: &TableFile, c: usize) -> bool {
     weight * (u64::from(claim[MOST]) + 1) > u64::from(balance.bound)
 }
 
-/// Counts what the answer alone does not tell. A table with one of these answers has its parts where its trailer says.
-pub fn count(tally: &mut Tally, answer: u64, table: &[u8]) {
-    let code = handover::code(answer);
-    if ![0, 5, 121].contains(&code) {
-        return;
-    }
-    let table = TableFile::read(table);
-    let place = handover::figures(answer)[0] as usize;
+/// Counts what the answer alone does not tell of sets.
+pub fn count(tally: &mut Tally, code: u8, place: usize, table: &TableFile) {
     let claims = &table.claims;
     match code {
         0 => {
@@ -69,11 +63,8 @@ pub fn count(tally: &mut Tally, answer: u64, table: &[u8]) {
             tally.other("held with 256 claims in one set", has_longest(claims).into());
             tally.other("held with 256 sets", has_many(claims).into());
         }
-        5 => {
-            let failing = (0..claims.len()).find(|c| !holds_alone(&table, *c)).unwrap_or(place);
-            tally.other("rule 5 at a claim that alone would hold", holds_alone(&table, place).into());
-            tally.other("rule 5 where another set fails first", (!together(claims, place, failing)).into());
-        }
-        _ => tally.other("21 after a claim that 30 would name", (0..place).any(|c| clashes(claims, c)).into()),
+        5 => tally.other("rule 5 at a claim that alone would hold", holds_alone(table, place).into()),
+        121 => tally.other("21 after a claim that 30 would name", (0..place).any(|c| clashes(claims, c)).into()),
+        _ => {}
     }
 }

@@ -32,6 +32,24 @@ fn draft(random: &mut Random, array: &Array, count: usize, wanted: usize) -> Tab
     TableFile { rows, balances, claims, array_sum: array.sum() }
 }
 
+/// For an array with one thread at a time: balances under which no pair is live, and as many claims as there may be.
+pub fn crowded(random: &mut Random, array: &Array) -> TableFile {
+    let count = random.between(1, 3);
+    let balances: Vec<Balance> = (0..count).map(|_| heavy(random, array)).collect();
+    let claims = claims::following(random, &balances, MOST_CLAIMS);
+    TableFile { rows: saturated(array, &balances), balances, claims, array_sum: array.sum() }
+}
+
+/// Every agent weighs more than half of the bound.
+fn heavy(random: &mut Random, array: &Array) -> Balance {
+    let bound = random.pick(&[1, 2, 3, 65_535]);
+    let mut weights = vec![0; array.nodes().len()];
+    for agent in agents(array) {
+        weights[agent] = random.between(bound / 2 + 1, bound) as u16;
+    }
+    Balance { bound: bound as u32, weights }
+}
+
 /// An accepted draft with one figure changed, or a few of its claims.
 pub fn nearly(random: &mut Random, array: &Array) -> TableFile {
     let mut table = accepted(random, array);
@@ -236,5 +254,17 @@ mod tests {
         assert!(held(accepted) > 360);
         assert!((100..360).contains(&held(nearly)));
         assert!((20..300).contains(&held(broken)));
+    }
+
+    #[test]
+    fn crowded_tables_are_held() {
+        for round in 0..100 {
+            let mut random = Random::of(2, 1, round);
+            let file = arrays::line(&mut random, 300).bytes();
+            let array = plain::read_array(&file).expect("a valid array");
+            let table = crowded(&mut random, &array);
+            let held = matches!(plain::check(&file, &table.bytes()), plain::Verdict::Held { claims: 256, .. });
+            assert!(held, "round {round}, {} claims", table.claims.len());
+        }
     }
 }

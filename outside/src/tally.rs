@@ -1,24 +1,51 @@
 //! How often each answer was given.
 
+use std::collections::BTreeMap;
+
 pub const ENTRIES: [&str; 4] = ["check", "start", "step", "walk"];
 pub const CHECK: usize = 0;
 pub const START: usize = 1;
 pub const STEP: usize = 2;
 pub const WALK: usize = 3;
-const REFUSALS: usize = 30;
+const REFUSALS: usize = 31;
 /// The refusals that name a place.
-const PLACED: [usize; 11] = [6, 7, 8, 9, 10, 11, 12, 19, 20, 21, 30];
+const PLACED: [usize; 12] = [6, 7, 8, 9, 10, 11, 12, 19, 20, 21, 30, 31];
 
 /// Further counts, none of which may stay 0.
-const OTHERS: [&str; 23] = [
+const OTHERS: [&str; 48] = [
     "longest arrays",
     "longest tables",
     "held with a set of two agents",
     "held with 256 claims in one set",
     "held with 256 sets",
     "rule 5 at a claim that alone would hold",
-    "rule 5 where another set fails first",
     "21 after a claim that 30 would name",
+    "21 after a claim that 31 would name",
+    "30 after a claim that 31 would name",
+    "31 by the set",
+    "31 by the agent",
+    "31 by most",
+    "31 by the balance",
+    "31 by a repeat",
+    "31 by the set, its low byte rises",
+    "31 by the agent, its low byte rises",
+    "31 by most, its low byte rises",
+    "31 at the last of 256 claims",
+    "31 with a later claim out of order too",
+    "31 where claims rise by agent before set",
+    "held, the set decides",
+    "held, the agent decides",
+    "held, most decides",
+    "held, the balance decides",
+    "held, the set decides, its low byte falls",
+    "held, the agent decides, its low byte falls",
+    "held, most decides, its low byte falls",
+    "31, and held in order",
+    "31, and rule 1 in order",
+    "31, and rule 2 in order",
+    "31, and rule 3 in order",
+    "31, and rule 4 in order",
+    "31, and rule 5 in order",
     "calls with NULL",
     "configurations alike in engine and calculus",
     "of these with a marker",
@@ -67,13 +94,13 @@ pub struct Tally {
     /// Tables meant to be accepted, nearly accepted, broken.
     pub shares: [Share; 3],
     /// The counts named in `OTHERS`.
-    others: [u64; OTHERS.len()],
+    others: BTreeMap<&'static str, u64>,
 }
 
 /// Whether an entry uses a refusal.
 fn uses(entry: usize, number: usize) -> bool {
     match entry {
-        CHECK => number <= 21 || number == 30,
+        CHECK => number <= 21 || number == 30 || number == 31,
         START => number <= 12 || number == 22 || number == 28,
         STEP => number <= 12 || (22..=29).contains(&number),
         _ => number <= 12 || number == 22 || number == 23,
@@ -116,9 +143,9 @@ impl Tally {
         }
     }
 
-    pub fn other(&mut self, what: &str, more: u64) {
-        let at = OTHERS.iter().position(|other| *other == what).expect("a count of the list");
-        self.others[at] += more;
+    pub fn other(&mut self, what: &'static str, more: u64) {
+        assert!(OTHERS.contains(&what), "no count of the list: {what}");
+        *self.others.entry(what).or_default() += more;
     }
 
     /// Prints all counts. Gives what is wrong: answers never given, and refusals by an entry that does not use them.
@@ -173,7 +200,7 @@ impl Tally {
         counts.extend(["quiet", "spent", "full"].into_iter().zip(self.endings));
         counts.extend([("starts made", self.made[START]), ("steps made", self.made[STEP])]);
         counts.extend(["remarks, empty or of a refused file", "remarks, not empty"].into_iter().zip(self.remarks));
-        counts.extend(OTHERS.into_iter().zip(self.others));
+        counts.extend(OTHERS.map(|name| (name, self.others.get(name).copied().unwrap_or(0))));
         for (name, count) in counts {
             println!("{name}: {count}");
             if count == 0 {

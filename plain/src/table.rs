@@ -1,4 +1,4 @@
-//! Reader of tables: refusals 13 to 21 and 30.
+//! Reader of tables: refusals 13 to 21, 30 and 31.
 
 use crate::array::{read_array, Array};
 use crate::bytes::{number16, number32, word_sum, Names};
@@ -42,6 +42,11 @@ impl Claim {
     pub fn same_set(&self, other: &Claim) -> bool {
         self.set != 0 && self.set == other.set
     }
+
+    /// What the claims of a table rise by, the most important number first.
+    fn rank(&self) -> (u16, usize, u16, usize) {
+        (self.set, self.agent, self.most, self.balance)
+    }
 }
 
 /// A table that was read for an array.
@@ -62,6 +67,7 @@ impl Table {
         &self.balances
     }
 
+    /// The claims in their one order, without repeats.
     pub fn claims(&self) -> &[Claim] {
         &self.claims
     }
@@ -132,6 +138,10 @@ pub fn read_table_for(array: &Array, file: &[u8]) -> Result<Table, Refusal> {
         earlier.any(|earlier| earlier.most != claim.most || earlier.balance != claim.balance)
     };
     refuse_at(30, (0..claim_count).filter(differs))?;
+
+    // Claim 0 has no predecessor.
+    let out_of_order = |i: &usize| claims[*i].rank() <= claims[*i - 1].rank();
+    refuse_at(31, (1..claim_count).filter(out_of_order))?;
 
     Ok(Table { rows, balances, claims })
 }

@@ -1,7 +1,7 @@
 //! The checker and the engine written for speed alone: unchecked indexing, raw pointers, nothing allocated unless
 //! an array is refused.
-//! Arguments and answers are those of `include/handover.h`. It has the base and the sets of claims: what later requests add is timed beside
-//! plain alone.
+//! Arguments and answers are those of `include/handover.h`. It has the base, the sets of claims and their order: what later requests add is
+//! timed beside plain alone.
 
 mod array;
 mod engine;

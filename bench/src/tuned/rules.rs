@@ -75,20 +75,16 @@ unsafe fn fill_loads<const L: usize>(array: &Array, table: &Table, loads: &mut [
     }
 }
 
-/// The claims of a set agree in most and balance, so it is met where each of them holds alone. A set's first claim is
-/// looked for only where one does not.
+/// The claims of a set agree in most and balance, so it is met where each of them holds alone. They lie side by side,
+/// so the first claim that does not is of the first set that is not met.
 unsafe fn rule_5(table: &Table) -> u64 {
-    let mut place = table.claims;
     for c in 0..table.claims {
         let claim = table.claim(c);
         let weight = u64::from(table.weight(claim.balance, claim.agent));
         if weight * (claim.most + 1) <= u64::from(table.bound(claim.balance)) {
             let first = (0..c).find(|d| claim.set != 0 && table.claim(*d).set == claim.set);
-            place = place.min(first.unwrap_or(c));
+            return 5 + ((first.unwrap_or(c) as u64) << 8);
         }
     }
-    if place == table.claims {
-        return 0;
-    }
-    5 + ((place as u64) << 8)
+    0
 }

@@ -1,4 +1,4 @@
-//! Reads a table file: refusals 13 to 21 and 30.
+//! Reads a table file: refusals 13 to 21, 30 and 31.
 
 use super::array::Array;
 use super::{refusal, u16_at, u32_at, u64_at, word_sum, Row};
@@ -47,6 +47,12 @@ impl Table<'_> {
             set: word >> 48,
         }
     }
+
+    /// Set, agent, most and balance as one number, by which claims rise.
+    unsafe fn rank(&self, c: usize) -> u64 {
+        let word = u64_at(self.file, self.claims_at + 8 * c);
+        word & 0xffff_0000_ffff_0000 | (word & 0xffff) << 32 | word >> 32 & 0xffff
+    }
 }
 
 pub fn read<'a>(array: &Array, file: &'a [u8]) -> Result<Table<'a>, u64> {
@@ -55,7 +61,7 @@ pub fn read<'a>(array: &Array, file: &'a [u8]) -> Result<Table<'a>, u64> {
         check_rows(array, &table)?;
         check_balances(array, &table)?;
         check_claims(array, &table)?;
-        check_sets(&table)?;
+        check_order(&table)?;
     }
     Ok(table)
 }
@@ -134,14 +140,26 @@ unsafe fn check_claims(array: &Array, table: &Table) -> Result<(), u64> {
     Ok(())
 }
 
+/// Refusals 30 and 31. As long as claims rise, those of a set lie side by side, and neighbours are compared alone.
+unsafe fn check_order(table: &Table) -> Result<(), u64> {
+    for c in 1..table.claims {
+        let (before, rank) = (table.rank(c - 1), table.rank(c));
+        if rank <= before {
+            return Err(check_sets(table).err().unwrap_or(refusal(31, c)));
+        }
+        let together = rank >> 48 != 0 && rank >> 48 == before >> 48;
+        if together && rank as u32 != before as u32 {
+            return Err(refusal(30, c));
+        }
+    }
+    Ok(())
+}
+
 /// Marks a slot without a claim.
 const FREE: u16 = u16::MAX;
 
-/// Refusal 30: each claim is compared with the first of its set.
+/// Refusal 30 of claims in any order: each is compared with the first of its set.
 unsafe fn check_sets(table: &Table) -> Result<(), u64> {
-    if (0..table.claims).fold(0, |sets, c| sets | table.claim(c).set) == 0 {
-        return Ok(());
-    }
     let mut slots = [FREE; 1024];
     for c in 0..table.claims {
         let claim = table.claim(c);

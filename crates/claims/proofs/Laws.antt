@@ -1,20 +1,20 @@
--- Refusal 30 by each set's first claim, and what it leaves: the claims of a set agree.
-use Prim.Native.Nat.{ℕ, _≤_, _<_}
-use native.Mathlib.Nat.{le-refl, eq-or-lt-of-le, lt-of-not-le, le-of-suc-le-suc}
+-- Refusal 30 by each set's first claim, refusal 31 by neighbours, and what 21, 30 and 31 leave of the claims.
+use Prim.Native.Nat.{ℕ, zero, suc, _-_, _≤_, _<_}
+use native.Mathlib.Nat.{le-refl, le-trans, eq-or-lt-of-le, lt-of-not-le, le-of-suc-le-suc}
 use native.Mathlib.Omega.{arith}
-use mathlib.Core.Path.{_≡_, refl, sym, _∙_, subst}
+use mathlib.Core.Path.{_≡_, refl, sym, ap, _∙_, subst}
 use mathlib.Core.Logic.{_⊎_, inl, inr, _≢_, ⊎-elim}
 use mathlib.Core.Bool.{true, false, true≢false}
 use lib.Dec.{eqb, leb}
 use borrow.Author.Tests.{eqb-true, eq-eqb, ltb-true, leb-true, leb-false}
 use Rattle.laws.specs.Search.{first, clear}
-use Rattle.laws.proofs.Search.{decided, and-split, and-join, implies, implied, same-test, test-clear, first-clear, every-true, true-every}
+use Rattle.laws.proofs.Search.{decided, and-split, and-join, implies, implied, same-test, test-clear, first-clear, clear-first, every-true, true-every}
 use Rattle.model.specs.declared.Claim.{Claim}
-use Rattle.model.specs.Tree.{Array, nodeAt, isAgent}
+use Rattle.model.specs.Tree.{Array}
 use Rattle.model.specs.Formed.{refuse}
-use Rattle.model.specs.Rules.{Table, together, Agree, SetsAgree}
+use Rattle.model.specs.Rules.{Table, together, comesAfter, Named, Agree, SetsAgree, Rising}
 use Rattle.model.proofs.Sets.{together-how, numbered, together-self, together-sym, together-trans, zero-alone}
-use Rattle.layout.specs.Table.{agrees, setFits, refusal21, refusal30}
+use Rattle.layout.specs.Table.{agrees, setFits, inOrder, refusal21, refusal30, refusal31}
 use Rattle.claims.specs.Sets.{FirstOf}
 
 agrees-true : (x y : Claim) → agrees x y ≡ true → Agree x y
@@ -100,9 +100,24 @@ sets-agree t e c hc d hd k = go (decided (leb c d))
     go (inr l) = fits-before t c d (fits c hc) (leb-false c d l) k
 
 -- what refusal 21 leaves: each claim names an agent and a balance
-pub claims-named : (a : Array) (t : Table) → refusal21 a t ≡ clear → (c : ℕ) → c < t .claims
-    → (isAgent (nodeAt a (t .claim c .agent)) ≡ true) × (t .claim c .balance < t .balances)
+pub claims-named : (a : Array) (t : Table) → refusal21 a t ≡ clear → Named a t
 unfolding refusal21
 claims-named a t e c h =
     let s = and-split _ _ (test-clear _ _ (first-clear (t .claims) _ e c h)) in
     (s .0, ltb-true _ (t .balances) (s .1))
+
+-- what refusal 31 leaves: each claim comes after its predecessor
+pub claims-rise : (t : Table) → refusal31 t ≡ clear → Rising t
+unfolding refusal31 inOrder
+claims-rise t e c h = test-clear _ _ (first-clear (t .claims) _ e (suc c) h)
+
+-- a claim but the first is in order where it comes after the one before it
+pub in-order : (t : Table) (c : ℕ) → 1 ≤ c → comesAfter (t .claim c) (t .claim (c - 1)) ≡ inOrder t c
+unfolding inOrder
+in-order t zero h = absurd (omega (arith, h))
+in-order t (suc c) h = ap (λ (d : ℕ). comesAfter (t .claim (suc c)) (t .claim d)) (omega arith)
+
+-- a search that found nothing below n found nothing below fewer
+pub fewer : (t : Table) (n : ℕ) → t .claims ≤ n → first n (λ c. refuse 31 c (inOrder t c)) ≡ clear → refusal31 t ≡ clear
+unfolding refusal31
+fewer t n h e = clear-first (t .claims) _ (λ c l. first-clear n _ e c (le-trans l h))

@@ -1,9 +1,10 @@
-// Claims and their sets: refusals 21 and 30, and the first claim of a set.
-// Promises refusal21 and refusal30 of layout, and FirstOf. Depends on layout, records, model and laws.
+// Claims, their sets and their order: refusals 21, 30 and 31, and the first claim of a set.
+// Promises refusal21, refusal30 and refusal31 of layout, and FirstOf. Depends on layout, records, model and laws.
 ghost use mathlib.Core.Path.{_≡_};
 ghost use Prim.Native.Nat.{_<_};
+ghost use Rattle.model.specs.Rules.{rises, comesAfter};
 ghost use Rattle.records.specs.Record.{arrayOf, foundOf, RecordsFit};
-ghost use Rattle.layout.specs.Table.{tableOf, claimFits, agrees, refusal21, refusal30, ClaimsLie};
+ghost use Rattle.layout.specs.Table.{tableOf, claimFits, agrees, refusal21, refusal30, refusal31, ClaimsLie};
 ghost use Rattle.claims.specs.Sets.{FirstOf};
 use layout::Sizes;
 use model::Claim;
@@ -77,6 +78,43 @@ pub fn bad_set(table: &[u8], z: Sizes) -> Check
             });
         }
         later += 1;
+    }
+    Check::Passed
+}
+
+// The lower number first; of equal ones what follows decides.
+fn number_rises(m: usize, n: usize, next: bool) -> bool
+    ensures { λ b. ⌜ b ≡ rises m n next ⌝ }
+{
+    (m < n) | ((m == n) & next)
+}
+
+// Claim y comes after claim x.
+fn comes_after(y: Claim, x: Claim) -> bool
+    ensures { λ b. ⌜ b ≡ comesAfter y x ⌝ }
+{
+    let by_balance = x.balance < y.balance;
+    let by_most = number_rises(x.most, y.most, by_balance);
+    let by_agent = number_rises(x.agent, y.agent, by_most);
+    number_rises(x.set, y.set, by_agent)
+}
+
+// Refusal 31.
+pub fn bad_order(table: &[u8], z: Sizes) -> Check
+    requires { ⌜ ClaimsLie (now table) z ⌝ }
+    ensures { λ r. ⌜ foundOf r ≡ refusal31 (tableOf (now (table .entry)) z) ⌝ }
+{
+    let mut next: usize = 1;
+    while next < z.claims {
+        let x = layout::read_claim(table, z, next - 1);
+        let y = layout::read_claim(table, z, next);
+        if !comes_after(y, x) {
+            return Check::Refused(Refusal {
+                number: 31,
+                place: next,
+            });
+        }
+        next += 1;
     }
     Check::Passed
 }

@@ -1,13 +1,16 @@
 -- The marked cases over bytes, and the other entries' rows, by computation.
-use Prim.Native.Nat.{ℕ, _≤_, _<_}
+use Prim.Native.Nat.{ℕ, zero, suc, _≤_, _<_}
 use native.Mathlib.Omega.{arith}
 use mathlib.Core.Path.{_≡_, refl, ap, _∙_}
 use mathlib.Core.Logic.{_≢_, inl, inr, ⊎-elim}
 use mathlib.Core.Bool.{true, false, true≢false}
 use mathlib.Core.List.{List, [], _∷_, map}
+use lib.Dec.{ltb}
+use borrow.Author.Tests.{ltb-true}
 use Rattle.laws.specs.Search as F
 use Rattle.laws.specs.Lists as L
 use Rattle.laws.specs.Lists.{All}
+use Rattle.laws.proofs.Lists.{All-map, every-All}
 use Rattle.wire.specs.Numbers as N
 use Rattle.model.specs.Tree as T
 use Rattle.model.specs.Formed as W
@@ -17,18 +20,19 @@ use Rattle.model.specs.Numbers as I
 use Rattle.model.specs.Memory as M
 use Rattle.model.specs.Rules as U
 use Rattle.model.specs.Safe as Z
+use Rattle.model.specs.Same.{Among, SameClaims}
 use Rattle.records.specs.Record as R
 use Rattle.fields.specs.Fields as D
 use Rattle.layout.specs.Table as Y
 use Rattle.arrays.specs.File.{remarkOf, readArray}
 use Rattle.records.specs.declared.Trailer.{Trailer}
 use Rattle.layout.specs.declared.Sizes.{Sizes}
-use Rattle.handover.specs.Front.{judged, arrayRead, tableRead}
+use Rattle.handover.specs.Front.{judged, tableIn, arrayRead, tableRead}
 use Rattle.engine.specs.declared.Walk.{Walk}
 use Rattle.handover.specs.declared.WalkAnswer.{WalkAnswer}
 use Rattle.handover.specs.declared.WalkAnswer.the-variants.{Walked, Refused}
 use Rattle.handover.specs.Engine.{startOf, stepOf, walkOf, nextLeft, strideOf, Left, saysWalk}
-use Rattle.handover.specs.Files.{Case, cases, Unkept, remark, remarkedB, tablesRead, arraysRead, Letters}
+use Rattle.handover.specs.Files.{pis, nodesA, claimBytes, setsOfA, Case, cases, Unkept, remark, remarkedB, tablesRead, arraysRead, Letters}
 use Rattle.handover.specs.Files.{Answered, calls, toLeft, Ended, Answers, endings, Unlisted}
 use Rattle.handover.specs.Refusals.{done, StartNumber, WalkNumber}
 
@@ -38,7 +42,7 @@ unfolding F.test F.andThen F.under F.first F.every F.any F.sum F.least L.one L.a
     N.u16At N.u32At N.wordSum
     T.nodeAt T.grow T.tree T.procAt T.asAgent T.agentAt T.receives T.load T.opens T.isAgent T.isNew
     W.children W.params W.binds W.sent W.uses W.childFits W.refusal8 W.fieldsTo W.refusal9 W.refusal10 W.binders W.refusal11 W.reaches W.inReach W.refusal12
-    R.sortOf R.nodeOf D.refusal6 D.refusal7 Y.partsFit Y.refusal19 Y.refusal20 Y.refusal21 Y.setFits Y.refusal30
+    R.sortOf R.nodeOf D.refusal6 D.refusal7 Y.partsFit Y.refusal19 Y.refusal20 Y.refusal21 Y.setFits Y.refusal30 Y.inOrder Y.refusal31
     L.put T.freeBelow T.isFree S.choicesOf S.stays S.bind S.keep S.unless S.onAgents S.cutFrom S.unfoldProc S.markerOf S.receiverLeaves S.senderLeaves
     S.stepped S.attempt S.start I.sameEntry I.position I.extend I.listAfter I.markersAfter
     M.words M.threadIn M.threadsIn M.wordsOf M.entryIn M.entriesIn M.numbersOf M.isResource M.isOut M.wordFormed M.threadFormed M.entryFormed M.unlike M.formed
@@ -55,12 +59,38 @@ cases-hold = refl
 abbrev meets : Attempt
 meets = record { receiver = 1; sender = 0; choices = λ i. false }
 
+-- a table with a repeat, and the one without it: its bytes, and that the claims are the same
+abbrev once : List ℕ
+once = setsOfA 1 (claimBytes 6 1 ∷ [])
+
+abbrev twice : List ℕ
+twice = setsOfA 1 (claimBytes 6 1 ∷ claimBytes 6 1 ∷ [])
+
+once-bytes : All (λ b. b < 256) once
+unfolding computed
+once-bytes = All-map (λ b e. ltb-true b 256 e) once (every-All (λ b. ltb b 256) 0 once refl)
+
+repeated : SameClaims (tableIn (pis 3 nodesA) twice) (tableIn (pis 3 nodesA) once)
+unfolding computed
+repeated = record { there = there; back = back }
+  where
+    there : (c : ℕ) → c < 2 → Among (tableIn (pis 3 nodesA) once) (tableIn (pis 3 nodesA) twice .claim c)
+    there zero h = (0, omega arith, refl)
+    there (suc zero) h = (0, omega arith, refl)
+    there (suc (suc c)) h = absurd (omega (arith, h))
+
+    back : (c : ℕ) → c < 1 → Among (tableIn (pis 3 nodesA) twice) (tableIn (pis 3 nodesA) once .claim c)
+    back zero h = (0, omega arith, refl)
+    back (suc c) h = absurd (omega (arith, h))
+
 pub unkept : Unkept
 unfolding computed
 unkept = record {
   holds = λ d. let z : 1 ≤ 0 = d (λ i. false) (meets ∷ []) .claims 0 (omega arith) in absurd (omega (arith, z));
   atStart = λ b. let z : 1 ≤ 0 = b (λ i. false) [] 0 (omega arith) in absurd (omega (arith, z));
   afterStep = λ b. let z : 1 ≤ 0 = b (λ i. false) (meets ∷ []) 1 (omega arith) in absurd (omega (arith, z));
+  order = λ o. let z : _≡_ {A = ℕ} 2 1 = o once once-bytes refl repeated .many in absurd (omega (arith, z));
+  bytes = λ b. let z : _≡_ {A = ℕ} 0 1 = b .bytes 0 (omega arith) 7 (omega arith) in absurd (omega (arith, z));
 }
 
 pub remark-holds : remarkOf remarkedB ≡ remark
@@ -109,10 +139,10 @@ pub unlisted : Unlisted
 unlisted = record {
   array = (λ h. past 0 1 (omega arith) (h .0), λ h. past 12 13 (omega arith) (h .1));
   table = (
-    λ h. ⊎-elim (λ a. past 0 1 (omega arith) (a .0)) (λ b. absurd (omega (arith, b))) h,
-    λ h. ⊎-elim (λ a. past 21 22 (omega arith) (a .1)) (λ b. absurd (omega (arith, b))) h,
-    λ h. ⊎-elim (λ a. past 21 29 (omega arith) (a .1)) (λ b. absurd (omega (arith, b))) h,
-    λ h. ⊎-elim (λ a. past 21 31 (omega arith) (a .1)) (λ b. absurd (omega (arith, b))) h,
+    λ h. ⊎-elim (λ a. past 0 1 (omega arith) (a .0)) (λ b. past 0 30 (omega arith) (b .0)) h,
+    λ h. ⊎-elim (λ a. past 21 22 (omega arith) (a .1)) (λ b. past 22 30 (omega arith) (b .0)) h,
+    λ h. ⊎-elim (λ a. past 21 29 (omega arith) (a .1)) (λ b. past 29 30 (omega arith) (b .0)) h,
+    λ h. ⊎-elim (λ a. past 21 32 (omega arith) (a .1)) (λ b. past 31 32 (omega arith) (b .1)) h,
   );
   start = (
     start-not 13 (omega arith) (omega arith) (omega arith),

@@ -1,21 +1,27 @@
 -- From the parts to the whole promise: what the readers and the rules found is the definition's answer; with it come demand 2 and,
 -- where it is held, demand 3.
 use Prim.Native.Nat.{ℕ, _<_}
+use native.Mathlib.Omega.{arith}
 use mathlib.Core.Path.{_≡_, refl, sym, ap, _∙_, subst}
 use mathlib.Core.Logic.{_↔_}
 use mathlib.Core.Bool.{true, false, true≢false}
 use mathlib.Core.List.{List, [], _∷_}
+use lib.ListN.{getD}
 use Rattle.laws.specs.Search.{Found, clear, hit}
-use Rattle.laws.proofs.Search.{clear-hit, andThen-join, clear-andThen, hit-andThen}
-use Rattle.model.specs.Tree.{nodeAt, isAgent}
+use Rattle.laws.proofs.Search.{clear-hit, andThen-split, andThen-join, clear-andThen, hit-andThen}
+use Rattle.laws.proofs.Lists.{All-at}
 use Rattle.model.specs.Formed as F
 use Rattle.model.specs.Rules as M
-use Rattle.model.specs.Calculus.{calculus, run}
-use Rattle.model.specs.Rules.{inSet, SetsAgree, FirstBroken, at, verdict}
+use Rattle.model.specs.Calculus.{Choices, Attempt, calculus, run}
+use Rattle.model.specs.Rules.{inSet, Named, SetsAgree, Rising, FirstBroken, at, verdict}
+use Rattle.model.specs.Safe.{Safe}
 use Rattle.model.proofs.Tree.{agent-inside}
 use Rattle.model.proofs.Verdict.{held-rules, first-broken, first5}
 use Rattle.model.proofs.Sets.{set-claim, first-of-set, count-sums}
 use Rattle.model.proofs.Safety.{demand3}
+use Rattle.model.proofs.Order as O
+use Rattle.model.proofs.Alike.{rules-alike, safe-alike}
+use Rattle.model.proofs.Configs.{reached}
 use Rattle.records.specs.declared.Refusal.{Refusal}
 use Rattle.records.specs.declared.Trailer.{Trailer}
 use Rattle.records.specs.Record.{arrayOf}
@@ -24,8 +30,9 @@ use Rattle.arrays.specs.declared.ArrayAnswer.the-variants as A
 use Rattle.arrays.specs.File.{trailerOf, arrayRefusal, trailerAnswer, readArray, IsRead}
 use Rattle.arrays.proofs.Laws.{read-passes, read-refuses, read-is}
 use Rattle.layout.specs.declared.Sizes.{Sizes}
-use Rattle.layout.specs.Table.{sizesOf, tableOf, IsTable}
-use Rattle.claims.proofs.Laws.{claims-named, sets-agree}
+use Rattle.layout.specs.Table.{claimAt, sizesOf, tableOf, refusal21, IsTable}
+use Rattle.layout.proofs.Laws.{claim-bytes}
+use Rattle.claims.proofs.Laws.{claims-named, sets-agree, claims-rise}
 use Rattle.tables.specs.declared.TableAnswer.{TableAnswer}
 use Rattle.tables.specs.Read as T
 use Rattle.tables.specs.Read.{tableRefusal, filesRefusal, readTable}
@@ -36,10 +43,10 @@ use Rattle.rules.specs.Ruling.{ruled}
 use Rattle.handover.specs.declared.Verdict.{Verdict}
 use Rattle.handover.specs.declared.Verdict.the-variants.{Held, Refused}
 use Rattle.handover.specs.Front.{Outcome, held, rule, says, IsHeld, arrayIn, sizesIn, tableIn, afterRules, judged, Demand3, Judges}
-use Rattle.handover.specs.Front.{saysArray, saysTable, arrayRead, tableRead, ArrayPromise, TablePromise}
+use Rattle.handover.specs.Front.{saysArray, saysTable, arrayRead, tableRead, OneOrder, ArrayPromise, TablePromise, Untouched}
 use Rattle.handover.specs.Bodies.{verdictOf}
 use Rattle.handover.specs.Refusals.{Reply, done, refused, unlessRefused, ArrayNumber, TableNumber}
-use Rattle.handover.proofs.Refusals.{Small, array-small, files-small}
+use Rattle.handover.proofs.Refusals.{Small, read-array, array-small, files-small}
 
 -- ---- the readers
 
@@ -62,11 +69,30 @@ table-says : (x : Found F.Refusal) (z : Sizes) → saysTable (T.sizesAnswer x z)
 table-says clear z = refl
 table-says (hit r) z = refl
 
-pub table-promise : (f s : List ℕ) (x : TableAnswer) → x ≡ readTable f s → TablePromise f s x
+-- a table that was read
+read-table : (f s : List ℕ) → filesRefusal f s ≡ clear → IsTable f (trailerOf f) s (sizesIn f s)
+read-table f s e = passed-table f (trailerOf f) s (andThen-split (arrayRefusal f) _ e .1)
+
+was-read : {A : Type 0} (x : Found F.Refusal) (a b : A) → unlessRefused x a ≡ done b → x ≡ clear
+was-read clear a b e = refl
+was-read (hit r) a b e = let z : true ≡ false = cc in absurd (true≢false z)
+
+one-order : (f s : List ℕ) → ((i : ℕ) → getD s i 0 < 256) → filesRefusal f s ≡ clear → OneOrder f s
+one-order f s bytes e u all d same =
+    let rise : (w : List ℕ) → filesRefusal f w ≡ clear → Rising (tableIn f w) = λ w q. claims-rise (tableIn f w) (read-table f w q .order) in
+    let o = O.one-order (tableIn f s) (tableIn f u) (rise s e) (rise u d) same in
+    let small : (i : ℕ) → getD u i 0 < 256 = λ i. All-at (λ b. b < 256) u i 0 (omega arith) all in
+    record { many = o .0; bytes = λ c h i l. claim-bytes s u (claimAt (sizesIn f s) c) (claimAt (sizesIn f u) c) bytes small (o .1 c h) i l }
+
+pub table-promise : (f s : List ℕ) (x : TableAnswer) → ((i : ℕ) → getD s i 0 < 256) → x ≡ readTable f s → TablePromise f s x
 unfolding readTable tableRead
-table-promise f s x e =
+table-promise f s x bytes e =
     let a : saysTable x ≡ tableRead f s = ap saysTable e ∙ table-says (filesRefusal f s) (sizesIn f s) in
-    record { answers = a; listed = λ n p q. reply-listed TableNumber (filesRefusal f s) _ (files-small f s) n p (sym a ∙ q) }
+    record {
+      answers = a;
+      order = λ z q. one-order f s bytes (was-read (filesRefusal f s) _ z (sym a ∙ q));
+      listed = λ n p q. reply-listed TableNumber (filesRefusal f s) _ (files-small f s) n p (sym a ∙ q);
+    }
 
 -- ---- the checker
 
@@ -126,8 +152,7 @@ module _ (f s : List ℕ) where
     held-ruled (R.Rule5 c) = (λ h. absurd h, λ e. clear-hit _ (sym e))
 
     -- what refusals 21 and 30 leave of the claims
-    named : (c : ℕ) → c < tableIn f s .claims
-        → (isAgent (nodeAt (arrayIn f) (tableIn f s .claim c .agent)) ≡ true) × (tableIn f s .claim c .balance < tableIn f s .balances)
+    named : Named (arrayIn f) (tableIn f s)
     named = claims-named (arrayIn f) (tableIn f s) (table .claims)
 
     agree : SetsAgree (tableIn f s)
@@ -180,3 +205,17 @@ module _ (f s : List ℕ) where
   table-refused t r e found =
       let p = read-passes f t e in
       refused-judges r (clear-andThen (arrayRefusal f) (tableRefusal f (trailerOf f) s) (p .0) ∙ ap (λ u. tableRefusal f u s) (p .1) ∙ sym found)
+
+-- ---- claims as a set
+
+-- where the array is read and the claims of a table name its agents and balances (21), the table says what any other does with the same rows and
+-- balances and the same claims
+pub untouched : (f s u : List ℕ) → arrayRefusal f ≡ clear → refusal21 (arrayIn f) (tableIn f s) ≡ clear → Untouched f s u
+untouched f s u read claims e same =
+    let a = arrayIn f in
+    let ok = read-array f read .formed in
+    let safe : (ch : Choices) (us : List Attempt) → Safe a (tableIn f s) (run calculus a ch us) ↔ Safe a (tableIn f u) (run calculus a ch us) =
+    λ ch us. safe-alike a ok (tableIn f s) (tableIn f u) e same (run calculus a ch us) (reached a ok ch us) in (
+      rules-alike a ok (tableIn f s) (tableIn f u) e same (claims-named a (tableIn f s) claims),
+      (λ h ch us. safe ch us .0 (h ch us), λ h ch us. safe ch us .1 (h ch us)),
+    )

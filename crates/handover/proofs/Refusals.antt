@@ -22,7 +22,8 @@ use Rattle.fields.specs.Fields.{refusal6, refusal7}
 use Rattle.arrays.specs.declared.ArrayAnswer.the-variants as A
 use Rattle.arrays.specs.File.{trailerOf, arrayRefusal, refusal1, refusal2, refusal3, refusal4, refusal5, from6, readArray, trailerAnswer, IsRead}
 use Rattle.arrays.proofs.Laws.{read-is, counts-fit}
-use Rattle.layout.specs.Table.{sizesOf, tableOf, refusal13, refusal14, refusal15, refusal16, refusal17, refusal18, refusal19, refusal20, refusal21, refusal30}
+use Rattle.layout.specs.Table.{sizesOf, tableOf, refusal13, refusal14, refusal15, refusal16, refusal17, refusal18, refusal19, refusal20}
+use Rattle.layout.specs.Table.{refusal21, refusal30, refusal31}
 use Rattle.tables.specs.Read.{tableRefusal, filesRefusal}
 use Rattle.tables.proofs.Laws as L
 use Rattle.handover.specs.Front.{arrayIn}
@@ -86,10 +87,10 @@ array-small s =
     let c = counts-fit t (test-clear _ _ fits) in
     from6-small s t (c .1) (c .2)
 
--- ---- 13 to 21 and 30
+-- ---- 13 to 21, 30 and 31
 
 table-small : (f : List ℕ) (t : Trailer) (s : List ℕ) → t .names ≤ 256 → Small TableNumber (tableRefusal f t s)
-unfolding refusal19 refusal20 refusal21 refusal30
+unfolding refusal19 refusal20 refusal21 refusal30 refusal31
 table-small f t s n =
     let z = sizesOf t s in
     andThen-small TableNumber (refusal13 s) _ (unplaced TableNumber 13 _ (inl (omega arith, omega arith))) λ _.
@@ -102,7 +103,8 @@ table-small f t s n =
     andThen-small TableNumber (refusal19 (arrayOf f t) s z) _ (lowest TableNumber 19 _ _ (inl (omega arith, omega arith)) (omega (arith, n))) λ _.
     andThen-small TableNumber (refusal20 (arrayOf f t) s z) _ (lowest TableNumber 20 _ _ (inl (omega arith, omega arith)) (omega (arith, c .0))) λ _.
     andThen-small TableNumber (refusal21 (arrayOf f t) (tableOf s z)) _ (lowest TableNumber 21 _ _ (inl (omega arith, omega arith)) (omega (arith, c .1))) λ _.
-    lowest TableNumber 30 _ _ (inr refl) (omega (arith, c .1))
+    andThen-small TableNumber (refusal30 (tableOf s z)) _ (lowest TableNumber 30 _ _ (inr (omega arith, omega arith)) (omega (arith, c .1))) λ _.
+    lowest TableNumber 31 _ _ (inr (omega arith, omega arith)) (omega (arith, c .1))
 
 pub files-small : (f s : List ℕ) → Small TableNumber (filesRefusal f s)
 files-small f s =
@@ -188,7 +190,7 @@ start-number a ch m n e = fate (fitted-fate a m (start (words []) a ch) [])
 
 pub table-few : (n : ℕ) → TableNumber n → n ≤ 39
 table-few n (inl h) = omega (arith, h .1)
-table-few n (inr h) = omega arith
+table-few n (inr h) = omega (arith, h .1)
 
 pub start-few : (n : ℕ) → StartNumber n → n ≤ 39
 start-few n (inl h) = omega (arith, h .1)

@@ -16,7 +16,7 @@ use Rattle.lent.specs.declared.Counts.{Counts}
 use Rattle.engine.specs.declared.Turn.{Turn}
 use Rattle.engine.specs.declared.Walk.{Walk}
 use Rattle.handover.specs.Refusals.{done, refused, ArrayNumber, TableNumber, StartNumber, StepNumber, WalkNumber}
-use Rattle.handover.specs.Front.{Outcome, held, rule, Demand3, SetsBounded}
+use Rattle.handover.specs.Front.{Outcome, held, rule, SameBytes, OneOrder, Demand3, SetsBounded}
 use Rattle.handover.specs.Engine as E
 use Rattle.handover.specs.Engine.{Told, turned, Left, left, startOf, stepOf, strideOf, WalkPromise}
 use Rattle.handover.specs.declared.WalkAnswer.{WalkAnswer}
@@ -116,9 +116,9 @@ abbrev pub tableBytesA : ℕ → ℕ → ℕ → ℕ → ℕ → List ℕ
 tableBytesA row1 row2 bound w6 most =
     pic (sumOf 3 nodesA) (row 1 ∷ row row1 ∷ row row2 ∷ []) bound (0 ∷ 0 ∷ 0 ∷ 0 ∷ 0 ∷ 1 ∷ w6 ∷ 0 ∷ []) (claimBytes 6 most ∷ [])
 
--- A's table with other claims
-abbrev pub setsOfA : List (List ℕ) → List ℕ
-setsOfA claims = pic (sumOf 3 nodesA) (row 1 ∷ row 2 ∷ row 2 ∷ []) 1 (0 ∷ 0 ∷ 0 ∷ 0 ∷ 0 ∷ 1 ∷ 1 ∷ 0 ∷ []) claims
+-- A's table with another weight of node 6 and other claims
+abbrev pub setsOfA : ℕ → List (List ℕ) → List ℕ
+setsOfA w6 claims = pic (sumOf 3 nodesA) (row 1 ∷ row 2 ∷ row 2 ∷ []) 1 (0 ∷ 0 ∷ 0 ∷ 0 ∷ 0 ∷ 1 ∷ w6 ∷ 0 ∷ []) claims
 
 -- A's table with a second balance, w5 = 300 and w6 = 299, and a claim on it
 abbrev pub twoBalances : List ℕ
@@ -126,7 +126,7 @@ twoBalances =
     let first = balance 1 (0 ∷ 0 ∷ 0 ∷ 0 ∷ 0 ∷ 1 ∷ 1 ∷ 0 ∷ []) in
     let second = balance 70000 (0 ∷ 0 ∷ 0 ∷ 0 ∷ 0 ∷ 300 ∷ 299 ∷ 0 ∷ []) in
     balanced (sumOf 3 nodesA) (row 1 ∷ row 2 ∷ row 2 ∷ []) (first ∷ second ∷ [])
-    (claimBytes 6 1 ∷ claimBytesIn 0 1 6 233 ∷ claimBytes 6 1 ∷ claimBytes 6 1 ∷ [])
+    (claimBytes 6 1 ∷ claimBytesIn 0 1 6 233 ∷ claimBytesIn 0 1 6 234 ∷ claimBytesIn 0 1 6 235 ∷ [])
 
 -- ---- the rows: array file, table file, and what 01 says
 
@@ -164,18 +164,22 @@ cases =
     ∷ case (pis 1 nodesC) (pic (sumOf 1 nodesC) (row 1 ∷ []) 1 (0 ∷ 0 ∷ 1 ∷ 0 ∷ 1 ∷ 0 ∷ []) []) (held (sizes 6 1 1 0))
     -- A with a second balance, bound 70,000: 299 × 234 does not exceed it. In balance 0 claim 1 would keep rule 5.
     ∷ case (pis 3 nodesA) twoBalances (rule 5 (1 ∷ []))
-    -- A with claims of sets 256, 512 and 256, the last of agent 3, which weighs nothing: its set's first claim is named.
-    ∷ case (pis 3 nodesA) (setsOfA (claimBytesIn 256 0 6 1 ∷ claimBytesIn 512 0 6 1 ∷ claimBytesIn 256 0 3 1 ∷ [])) (rule 5 (0 ∷ []))
+    -- A with claims of sets 0, 256 and 256, the last of agent 6, which weighs nothing here: its set's first claim is named.
+    ∷ case (pis 3 nodesA) (setsOfA 0 (claimBytes 5 1 ∷ claimBytesIn 256 0 5 1 ∷ claimBytesIn 256 0 6 1 ∷ [])) (rule 5 (1 ∷ []))
     ∷ []
 
--- What `holds` and `bounds` promise is not true of every table, and not of the start alone: of A, agent 5 runs at the start, and agent 6 after
--- its step
+-- What `holds`, `bounds` and `order` promise is not true of every table, and the first two not of the start alone: of A, agent 5 runs at the
+-- start, and agent 6 after its step
 pub record Unkept : Type 0 where
   pub holds : Demand3 (pis 3 nodesA) (tableBytesA 2 2 1 1 0) → ⊥
-  -- agents 6 and 5 in a set of most 0
-  pub atStart : SetsBounded (pis 3 nodesA) (setsOfA (claimBytesIn 1 0 6 0 ∷ claimBytesIn 1 0 5 0 ∷ [])) → ⊥
+  -- agents 5 and 6 in a set of most 0
+  pub atStart : SetsBounded (pis 3 nodesA) (setsOfA 1 (claimBytesIn 1 0 5 0 ∷ claimBytesIn 1 0 6 0 ∷ [])) → ⊥
   -- agent 6 alone in a set of most 0, the second claim
-  pub afterStep : SetsBounded (pis 3 nodesA) (setsOfA (claimBytes 5 1 ∷ claimBytesIn 1 0 6 0 ∷ [])) → ⊥
+  pub afterStep : SetsBounded (pis 3 nodesA) (setsOfA 1 (claimBytes 5 1 ∷ claimBytesIn 1 0 6 0 ∷ [])) → ⊥
+  -- a table with a repeat and the one without it have the same claims
+  pub order : OneOrder (pis 3 nodesA) (setsOfA 1 (claimBytes 6 1 ∷ claimBytes 6 1 ∷ [])) → ⊥
+  -- claims that differ in their last byte
+  pub bytes : SameBytes (pis 3 nodesA) (setsOfA 1 (claimBytesIn 1 0 6 1 ∷ [])) (setsOfA 1 (claimBytesIn 257 0 6 1 ∷ [])) → ⊥
 
 -- ---- the readers: files, and what the reader says
 
@@ -312,7 +316,7 @@ endings =
 
 pub record Unlisted : Type 0 where
   pub array : (ArrayNumber 0 → ⊥) × (ArrayNumber 13 → ⊥)
-  pub table : (TableNumber 0 → ⊥) × (TableNumber 22 → ⊥) × (TableNumber 29 → ⊥) × (TableNumber 31 → ⊥)
+  pub table : (TableNumber 0 → ⊥) × (TableNumber 22 → ⊥) × (TableNumber 29 → ⊥) × (TableNumber 32 → ⊥)
   pub start : (StartNumber 13 → ⊥) × (StartNumber 23 → ⊥) × (StartNumber 27 → ⊥) × (StartNumber 29 → ⊥)
   pub step : (StepNumber 13 → ⊥) × (StepNumber 21 → ⊥) × (StepNumber 30 → ⊥)
   pub walk : (WalkNumber 13 → ⊥) × (WalkNumber 21 → ⊥) × (WalkNumber 24 → ⊥) × (WalkNumber 28 → ⊥)

@@ -1,22 +1,25 @@
 -- The front page's definitions: what the readers' and the checker's answers say, what they must say, and what held promises.
-use Prim.Native.Nat.{ℕ, _≤_}
+use Prim.Native.Nat.{ℕ, _+_, _≤_, _<_}
 use mathlib.Core.Path.{_≡_}
 use mathlib.Core.Logic.{_↔_}
 use mathlib.Core.Bool.{false}
 use mathlib.Core.List.{List, [], _∷_}
+use lib.ListN.{getD}
 use Rattle.laws.specs.Search.{clear, hit}
+use Rattle.laws.specs.Lists.{All}
 use Rattle.model.specs.Tree.{Array}
 use Rattle.model.specs.Calculus.{Choices, Attempt, calculus, run}
 use Rattle.model.specs.Rules as M
 use Rattle.model.specs.Rules.{Table, together, Each, Rules, at, verdict, FirstBroken}
 use Rattle.model.specs.Safe.{setSum, Safe}
+use Rattle.model.specs.Same.{Alike, SameClaims}
 use Rattle.records.specs.declared.Trailer.{Trailer}
 use Rattle.records.specs.Record.{arrayOf}
 use Rattle.arrays.specs.declared.ArrayAnswer.{ArrayAnswer}
 use Rattle.arrays.specs.declared.ArrayAnswer.the-variants as A
 use Rattle.arrays.specs.File.{trailerOf, arrayRefusal}
 use Rattle.layout.specs.declared.Sizes.{Sizes}
-use Rattle.layout.specs.Table.{sizesOf, tableOf}
+use Rattle.layout.specs.Table.{claimAt, sizesOf, tableOf}
 use Rattle.tables.specs.declared.TableAnswer.{TableAnswer}
 use Rattle.tables.specs.declared.TableAnswer.the-variants as T
 use Rattle.tables.specs.Read.{filesRefusal}
@@ -58,8 +61,20 @@ pub record ArrayPromise (f : List ℕ) (x : ArrayAnswer) : Type 0 where
   pub answers : saysArray x ≡ arrayRead f
   pub listed : (n p : ℕ) → saysArray x ≡ refused n p → ArrayNumber n
 
+-- ---- one order (02, request ii): "Two analysers write the same claims in different orders, and the archive stores both as different tables."
+
+-- the claims of two tables are as many, and the same in the same order, byte by byte
+pub record SameBytes (f s u : List ℕ) : Type 0 where
+  pub many : tableIn f s .claims ≡ tableIn f u .claims
+  pub bytes : Each (tableIn f s .claims) λ c. Each 8 λ i. getD s (claimAt (sizesIn f s) c + i) 0 ≡ getD u (claimAt (sizesIn f u) c + i) 0
+
+-- so it is with every other table of bytes that is read beside the same array and has the same claims as a set
+abbrev pub OneOrder : List ℕ → List ℕ → Type 0
+OneOrder f s = (u : List ℕ) → All (λ b. b < 256) u → filesRefusal f u ≡ clear → SameClaims (tableIn f s) (tableIn f u) → SameBytes f s u
+
 pub record TablePromise (f s : List ℕ) (x : TableAnswer) : Type 0 where
   pub answers : saysTable x ≡ tableRead f s
+  pub order : (z : Sizes) → saysTable x ≡ done z → OneOrder f s
   pub listed : (n p : ℕ) → saysTable x ≡ refused n p → TableNumber n
 
 -- ---- the checker: an answer in 01's numbers
@@ -79,7 +94,7 @@ says (Rule4 p q k) = done (rule 4 (p ∷ q ∷ k ∷ []))
 says (Rule5 c) = done (rule 5 (c ∷ []))
 says (Refused r) = refused (r .number) (r .place)
 
--- ---- what the answer must be: the first refusal of 1 to 21 and 30, else the first broken rule and its place, else held
+-- ---- what the answer must be: the first refusal of 1 to 21, 30 and 31, else the first broken rule and its place, else held
 
 abbrev pub afterRules : M.Verdict → Outcome → Outcome
 afterRules clear x = x
@@ -99,6 +114,14 @@ abbrev pub SetsBounded : List ℕ → List ℕ → Type 0
 SetsBounded f s =
     (ch : Choices) (us : List Attempt)
     → Each (tableIn f s .claims) λ q. setSum (arrayIn f .size) (tableIn f s) q (run calculus (arrayIn f) ch us) ≤ tableIn f s .claim q .most
+
+-- "What an accepted table says of an array is untouched" (02, request ii): two tables of one array with the same rows and balances whose claims are
+-- the same, in any order and with any repeats, obey the rules alike, and demand 3 is the same. A table of before that 31 refuses is one of the two
+-- and its claims put in order are in the other; proofs/Laws: untouched.
+abbrev pub Untouched : List ℕ → List ℕ → List ℕ → Type 0
+Untouched f s u =
+    Alike (arrayIn f) (tableIn f s) (tableIn f u) → SameClaims (tableIn f s) (tableIn f u)
+    → (Rules (arrayIn f) (tableIn f s) ↔ Rules (arrayIn f) (tableIn f u)) × (Demand3 f s ↔ Demand3 f u)
 
 -- ---- the whole promise of an answer
 

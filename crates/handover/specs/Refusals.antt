@@ -1,6 +1,6 @@
 -- Answers in 01's numbers: what a call did, or its refusal; and the numbers that each entry may refuse by (01, "Refusals, in checking
--- order"): "Table calls use 1 to 21, start 1 to 12, 22, 28, step 1 to 12 and 22 to 29, walk 1 to 12, 22, 23." Table calls use 30 too (02,
--- request i). The walk told step by step refuses as the walk does.
+-- order"): "Table calls use 1 to 21, start 1 to 12, 22, 28, step 1 to 12 and 22 to 29, walk 1 to 12, 22, 23." Table calls use 30 and 31
+-- too (02, requests i and ii). The walk told step by step refuses as the walk does.
 use Prim.Native.Nat.{ℕ, _≤_}
 use mathlib.Core.Path.{_≡_}
 use mathlib.Core.Logic.{_⊎_}
@@ -24,7 +24,7 @@ abbrev pub ArrayNumber : ℕ → Type 0
 ArrayNumber n = (1 ≤ n) × (n ≤ 12)
 
 abbrev pub TableNumber : ℕ → Type 0
-TableNumber n = ((1 ≤ n) × (n ≤ 21)) ⊎ (n ≡ 30)
+TableNumber n = ((1 ≤ n) × (n ≤ 21)) ⊎ ((30 ≤ n) × (n ≤ 31))
 
 abbrev pub StartNumber : ℕ → Type 0
 StartNumber n = ArrayNumber n ⊎ ((n ≡ 22) ⊎ (n ≡ 28))

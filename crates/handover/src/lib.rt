@@ -3,8 +3,8 @@
 //
 //   read_array   specs/Front: refusals 1 to 12, or what the trailer says
 //   remark       specs/File of arrays: the leading part of the caller's own slice
-//   read_table   specs/Front: refusals 1 to 21 and 30, or the sizes
-//   check        specs/Front: refusals 1 to 21 and 30, the first broken rule and its place, or held; held exactly when the five rules hold
+//   read_table   specs/Front: refusals 1 to 21, 30 and 31, or the sizes
+//   check        specs/Front: refusals 1 to 21, 30 and 31, the first broken rule and its place, or held; held exactly when the five rules hold
 //                (demand 2), and then demand 3
 //   start        specs/Engine: refusals 1 to 12, 22, 28, or the thread count; the list holds the calculus' start
 //   step         specs/Engine: refusals 1 to 12, 22 to 29, or the new counts; the lists hold the calculus' next configuration

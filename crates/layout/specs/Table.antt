@@ -1,8 +1,8 @@
--- The table file: its parts, the table that its bytes stand for, and refusals 13 to 21 and 30 (01, "The table file", "Refusals, in
--- checking order"; 02, request i).
-use Prim.Native.Nat.{ℕ, _+_, _*_, _-_, _/_, _%_, _≤_}
+-- The table file: its parts, the table that its bytes stand for, and refusals 13 to 21, 30 and 31 (01, "The table file", "Refusals, in
+-- checking order"; 02, requests i and ii).
+use Prim.Native.Nat.{ℕ, zero, suc, _+_, _*_, _-_, _/_, _%_, _≤_}
 use mathlib.Core.Path.{_≡_}
-use mathlib.Core.Bool.{Bool, cond, not, _&&_, _||_}
+use mathlib.Core.Bool.{Bool, true, cond, not, _&&_, _||_}
 use mathlib.Core.List.{List}
 use lib.Dec.{eqb, leb, ltb}
 use lib.ListN.{length, getD}
@@ -13,7 +13,7 @@ use Rattle.model.specs.Tree.{Array, nodeAt, isAgent, isNew}
 use Rattle.model.specs.Formed as F
 use Rattle.model.specs.Formed.{refuse}
 use Rattle.model.specs.declared.Claim.{Claim}
-use Rattle.model.specs.Rules.{Table, rowBits, together}
+use Rattle.model.specs.Rules.{Table, rowBits, together, comesAfter}
 use Rattle.records.specs.declared.Trailer.{Trailer}
 use Rattle.records.specs.Record.{arrayOf}
 use Rattle.layout.specs.declared.Sizes.{Sizes}
@@ -44,6 +44,7 @@ abbrev pub balanceAt : Sizes → ℕ → ℕ
 balanceAt z k = rowSize (z .form) * z .names + k * balanceSize z
 
 -- "Claims: Q of them; each has four 16-bit numbers: agent, most, balance, zero." "A claim's last number becomes a set number" (02, request i).
+-- They come in one order, without repeats (02, request ii: refusal 31).
 abbrev pub claimAt : Sizes → ℕ → ℕ
 claimAt z c = balanceAt z (z .balances) + 8 * c
 
@@ -155,6 +156,14 @@ setFits t c = every c λ d. not (together t c d) || agrees (t .claim c) (t .clai
 unfoldable pub refusal30 : Table → Found F.Refusal
 refusal30 t = first (t .claims) λ c. refuse 30 c (setFits t c)
 
+-- "31 when a claim doesn't come after its predecessor, checked after 30 (claim)" (02, request ii); claim 0 has none
+unfoldable pub inOrder : Table → ℕ → Bool
+inOrder t zero = true
+inOrder t (suc c) = comesAfter (t .claim (suc c)) (t .claim c)
+
+unfoldable pub refusal31 : Table → Found F.Refusal
+refusal31 t = first (t .claims) λ c. refuse 31 c (inOrder t c)
+
 -- ---- a table that was read
 
 -- the sizes fit the array and the file
@@ -180,3 +189,4 @@ pub record IsTable (f : List ℕ) (t : Trailer) (s : List ℕ) (z : Sizes) : Typ
   pub weights : refusal20 (arrayOf f t) s z ≡ clear
   pub claims : refusal21 (arrayOf f t) (tableOf s z) ≡ clear
   pub sets : refusal30 (tableOf s z) ≡ clear
+  pub order : refusal31 (tableOf s z) ≡ clear

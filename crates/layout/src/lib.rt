@@ -1,5 +1,5 @@
 // The parts of a table file: sizes, offsets, and the table that the bytes stand for.
-// Promises equations with specs/Table, which also holds refusals 13 to 21 and 30. Depends on records, wire, model and laws.
+// Promises equations with specs/Table, which also holds refusals 13 to 21, 30 and 31. Depends on records, wire, model and laws.
 ghost use mathlib.Core.Path.{_≡_};
 ghost use Prim.Native.Nat.{_≤_, _<_};
 ghost use lib.ListN.{length};

@@ -22,13 +22,12 @@ use Rattle.model.specs.Numbers.{Entry, noEntry, sameEntry, Listed, nobod
 use Rattle.model.specs.Memory.{opening, newIn, markerIn, words, Memory, configOf, entriesOf, threadRoom, markerRoom, isResource, isOut}
 use Rattle.model.specs.Memory.{wordFormed, threadFormed, entryFormed, unlike, formed}
 use Rattle.model.proofs.Tree.{agent-inside, Wf, wf-procAt}
-use Rattle.model.proofs.Nodes.{agent-at}
+use Rattle.model.proofs.Nodes.{agent-at, acts-agent, free-below}
 use Rattle.model.proofs.Markers.{entry-eq, entry-same}
 use Rattle.model.proofs.Memory.{length-threads, length-entries}
 use Rattle.model.proofs.Covers as C
 
--- ---- agents by node and by tree
-
+-- an agent node acts
 agent-of : (f : ℕ → Proc) (n : Node) → isAgent n ≡ true → (g : Agent) × (agentOf f n ≡ some g)
 unfolding isAgent agentOf
 agent-of f Node.stop e = absurd (false≢true e)
@@ -36,33 +35,6 @@ agent-of f (Node.new n l) e = absurd (false≢true e)
 agent-of f (Node.par l r) e = absurd (false≢true e)
 agent-of f (Node.choice l r) e = absurd (false≢true e)
 agent-of f (Node.agent s x ys l) e = (record { sort = s; channel = x; args = ys; body = f l }, refl)
-
-is-agent : (f : ℕ → Proc) (n : Node) (g : Agent) → agentOf f n ≡ some g → isAgent n ≡ true
-unfolding isAgent agentOf
-is-agent f Node.stop g e = cc
-is-agent f (Node.new n l) g e = cc
-is-agent f (Node.par l r) g e = cc
-is-agent f (Node.choice l r) g e = cc
-is-agent f (Node.agent s x ys l) g e = refl
-
--- names that are free are below N
-free-below : (a : Array) (p : Proc) (v : ℕ) → Wf a p → isFree p v ≡ true → v < a .names
-unfolding isFree freeBelow
-free-below a Proc.stop v w e = absurd (false≢true e)
-free-below a (Proc.new n p) v w e = free-below a p v (w .2) (and-split (not (eqb v n)) (isFree p v) e .1)
-free-below a (Proc.par p q) v w e = ⊎-elim (free-below a p v (w .0)) (free-below a q v (w .1)) (or-split (isFree p v) (isFree q v) e)
-free-below a (Proc.choice i p q) v w e = ⊎-elim (free-below a p v (w .0)) (free-below a q v (w .1)) (or-split (isFree p v) (isFree q v) e)
-free-below a (Proc.agent i s x ys p) v w e =
-    ⊎-elim (λ (k : eqb v x ≡ true). subst (λ z. z < a .names) (sym (eqb-true v x k)) (w .0 .channel))
-    (λ (k : freeBelow s (has ys v) (isFree p v) ≡ true). inside s k (free-below a p v (w .1))) (or-split (eqb v x) (freeBelow s (has ys v) (isFree p v)) e)
-  where
-    argument : has ys v ≡ true → v < a .names
-    argument k = All-has (λ y. y < a .names) ys v (w .0 .args) k
-
-    inside : (s : Sort) → freeBelow s (has ys v) (isFree p v) ≡ true → (isFree p v ≡ true → v < a .names) → v < a .names
-    inside out k below = ⊎-elim argument below (or-split (has ys v) (isFree p v) k)
-    inside inp k below = below (and-split (not (has ys v)) (isFree p v) k .1)
-    inside resource k below = below (and-split (not (has ys v)) (isFree p v) k .1)
 
 -- ---- threads
 
@@ -130,7 +102,7 @@ module _ (a : Array) (wf : WellFormed a) (k : ℕ) (few : k ≤ 4096) (es : List
     pub ok-formed : Ok a wf k few es t → threadFormed a k t ≡ true
     unfolding threadFormed wordFormed words
     ok-formed ok =
-        and-join (is-agent (λ l. procAt a l) (nodeAt a (t .agent)) (ok .acts .0) (sym (agent-at a (wf .children) (t .agent) (ok .below)) ∙ ok .acts .1))
+        and-join (acts-agent a (wf .children) (t .agent) (ok .acts .0) (ok .acts .1))
         (and-join (le-leb (t .marker) k (ok .fine)) (true-every (a .names) test (λ v h. at v (decided (isFree P v)))))
       where
         at : (v : ℕ) → (isFree P v ≡ true) ⊎ (isFree P v ≡ false) → test v ≡ true

@@ -9,6 +9,9 @@ pub mod Threads
 pub mod Stepped
 pub mod Covers
 pub mod Safety
+pub mod Order
+pub mod Alike
+pub mod Configs
 pub mod Natural
 pub mod Markers
 pub mod Memory

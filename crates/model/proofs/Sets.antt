@@ -18,6 +18,12 @@ use Rattle.model.specs.Calculus.{Config}
 use Rattle.model.specs.Rules.{Table, balanceOf, together, inSet, agentWeight, leastWeight, Rule5At, Each, SetsAgree, FirstAt}
 use Rattle.model.specs.Safe.{total, count, setSum}
 
+-- two tests that agree count the same threads
+pub count-same : {f g : ℕ → Bool} → ((i : ℕ) → f i ≡ g i) → {X C : Type 0} (c : Config X C) → count f c ≡ count g c
+unfolding total
+count-same same [] = refl
+count-same same (x ∷ c) = ap₂ _+_ (ap one (same (x .agent))) (count-same same c)
+
 module _ (t : Table) where
   -- ---- who is together
 
@@ -145,9 +151,7 @@ module _ (t : Table) where
         s .2 ∙ ap (balanceOf t c .weight) (eqb-true _ _ (sym (single-agent (s .0)) ∙ s .1))
 
     pub single-count : {X C : Type 0} (k : Config X C) → count (inSet t c) k ≡ count (λ i. eqb i (t .claim c .agent)) k
-    unfolding total
-    single-count [] = refl
-    single-count (x ∷ k) = ap₂ _+_ (ap one (single-agent (x .agent))) (single-count k)
+    single-count k = count-same single-agent k
 
     pub single-met : Rule5At t c ↔ MetAlone c
     single-met = let f : ℕ → Type 0 = λ x. balanceOf t c .bound < x * (t .claim c .most + 1) in (subst f single-weight, subst f (sym single-weight))

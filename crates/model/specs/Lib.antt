@@ -6,4 +6,5 @@ pub mod Numbers
 pub mod Memory
 pub mod Rules
 pub mod Safe
+pub mod Same
 pub mod Cases

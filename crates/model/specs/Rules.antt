@@ -8,7 +8,7 @@ use mathlib.Core.Option.{Option, none, some}
 use lib.Dec.{eqb, leb, ltb}
 use lib.ListN.{length, getD}
 use Rattle.laws.specs.Search.{Found, clear, test, andThen, under, first, every, any, least}
-use Rattle.model.specs.Tree.{Array, Sort, out, inp, resource, Agent, agentAt, procAt, receives, load, isNew}
+use Rattle.model.specs.Tree.{Array, nodeAt, isAgent, Sort, out, inp, resource, Agent, agentAt, procAt, receives, load, isNew}
 use Rattle.model.specs.declared.Claim.{Claim}
 
 -- ---- the table
@@ -56,6 +56,16 @@ agentWeight t c d = balanceOf t c .weight (t .claim d .agent)
 
 unfoldable pub leastWeight : Table → ℕ → ℕ
 leastWeight t c = least (t .claims) (together t c) (agentWeight t c) (agentWeight t c c)
+
+-- ---- claims in one order (02, request ii)
+
+-- the lower number first; of equal ones what follows decides
+abbrev pub rises : ℕ → ℕ → Bool → Bool
+rises m n next = ltb m n || (eqb m n && next)
+
+-- "Claims now rise strictly by set, agent, most, balance": claim y comes after claim x
+abbrev pub comesAfter : Claim → Claim → Bool
+comesAfter y x = rises (x .set) (y .set) (rises (x .agent) (y .agent) (rises (x .most) (y .most) (ltb (x .balance) (y .balance))))
 
 -- ---- live pairs
 
@@ -178,9 +188,13 @@ pub record Rules (a : Array) (t : Table) : Type 0 where
   pub rule4 : Rule4 a t
   pub rule5 : Rule5 a t
 
--- what refusal 21 leaves of the claims: each names a balance of the table
+-- what demand 3 asks of the claims: each names a balance of the table
 abbrev pub ClaimsFit : Table → Type 0
 ClaimsFit t = Each (t .claims) λ c. t .claim c .balance < t .balances
+
+-- what refusal 21 leaves of the claims: each names an agent of the array and a balance of the table
+abbrev pub Named : Array → Table → Type 0
+Named a t = Each (t .claims) λ c. (isAgent (nodeAt a (t .claim c .agent)) ≡ true) × (t .claim c .balance < t .balances)
 
 -- two claims agree in most and in balance; what refusal 30 leaves of the claims: those of one set do
 abbrev pub Agree : Claim → Claim → Type 0
@@ -188,6 +202,10 @@ Agree x y = (x .most ≡ y .most) × (x .balance ≡ y .balance)
 
 abbrev pub SetsAgree : Table → Type 0
 SetsAgree t = Each (t .claims) λ c. Each (t .claims) λ d. together t c d ≡ true → Agree (t .claim c) (t .claim d)
+
+-- what refusal 31 leaves of the claims: each comes after its predecessor
+abbrev pub Rising : Table → Type 0
+Rising t = (c : ℕ) → suc c < t .claims → comesAfter (t .claim (suc c)) (t .claim c) ≡ true
 
 -- ---- the verdict
 

@@ -18,17 +18,19 @@ use Rattle.marks.specs.Marks.{marked}
 use Rattle.model.specs.Tree.{Array, Node, nodeAt, isAgent}
 use Rattle.model.specs.Nodes.{loadOf}
 use Rattle.model.specs.Formed.{WellFormed}
-use Rattle.model.specs.Rules.{Table, together, SetsAgree, Broken, Verdict, at, check1, check2, arguments3, check3, balances4, check4, check5, verdict}
+use Rattle.model.specs.Same.{Alike}
+use Rattle.model.specs.Rules.{Table, together, Named, SetsAgree, Broken, Verdict, at, check1, check2, arguments3, check3, balances4, check4, check5, verdict}
 use Rattle.model.proofs.Tree.{agent-inside}
 use Rattle.model.proofs.Nodes.{load-at}
 use Rattle.model.proofs.Sets.{met-each, each-met}
+use Rattle.model.proofs.Alike.{load-alike, check3-alike, check4-alike, verdict-alike}
 use Rattle.records.specs.declared.Trailer.{Trailer}
 use Rattle.records.specs.Record.{arrayOf}
 use Rattle.arrays.specs.File.{IsRead}
 use Rattle.layout.specs.declared.Sizes.{Sizes}
 use Rattle.layout.specs.Table.{balanceAt, rowBit, tableOf, IsTable}
 use Rattle.layout.proofs.Laws.{claims-lie}
-use Rattle.claims.proofs.Laws.{claims-named, sets-agree}
+use Rattle.claims.proofs.Laws.{claims-named, sets-agree, claims-rise}
 use Rattle.loads.specs.Loads.{loadIn, AllLoads}
 use Rattle.loads.proofs.Laws.{half-load}
 use Rattle.pairs.specs.declared.Place.the-variants.{At}
@@ -36,7 +38,6 @@ use Rattle.pairs.specs.Pairs.{listTable, Weighed, atPair, pairsOf, placed}
 use Rattle.rules.specs.declared.Ruling.{Ruling}
 use Rattle.rules.specs.declared.Ruling.the-variants.{Held, Rule1, Rule2, Rule3, Rule4, Rule5}
 use Rattle.rules.specs.Ruling.{ruled, isHeld, ruleBelow, ownMarked, rootFits, claimHolds, setHolds, ClaimsListed, AllListed, claimed}
-use Rattle.rules.proofs.Alike.{Alike, load-alike, check3-alike, check4-alike, verdict-alike}
 
 -- ---- a loop passes place k, or stops there
 
@@ -164,7 +165,7 @@ module _ (f : List ℕ) (t : Trailer) (s : List ℕ) (z : Sizes) (read : IsRead 
   }
 
   -- a claim names an agent and a balance
-  named : (c : ℕ) → c < z .claims → (isAgent (nodeAt b (T .claim c .agent)) ≡ true) × (T .claim c .balance < z .balances)
+  named : Named b T
   named = claims-named b T (table .claims)
 
   claims : ClaimsListed s z loads bounds
@@ -179,6 +180,7 @@ module _ (f : List ℕ) (t : Trailer) (s : List ℕ) (z : Sizes) (read : IsRead 
               weight = weighed .half _ (agent-inside b _ (n .0)) _ (n .1);
               most = u16-small s bytes _;
             };
+        rise = claims-rise T (table .order);
       }
 
   pub filled : AllListed f t s z rows loads bounds
@@ -195,4 +197,4 @@ module _ (f : List ℕ) (t : Trailer) (s : List ℕ) (z : Sizes) (read : IsRead 
   judged =
       verdict-alike b ok _ T
       record { rows = λ v o h. marks v o (rw (table .laid .names) h); many = refl; bounds = bears; weights = weight-is }
-      record { many = refl; same = λ c h. refl; agents = λ c h. named c h .0; balances = λ c h. named c h .1 }
+      refl (λ c h. refl) named

@@ -9,7 +9,7 @@ use Rattle.laws.specs.Search.{clear, hit, test, andThen, first, every}
 use Rattle.marks.specs.Marks.{marked}
 use Rattle.model.specs.Tree.{Array, isNew}
 use Rattle.model.specs.declared.Claim.{Claim}
-use Rattle.model.specs.Rules.{Table, together, SetsAgree, Verdict, at, check3, check4, check5}
+use Rattle.model.specs.Rules.{Table, together, SetsAgree, Rising, Verdict, at, check3, check4, check5}
 use Rattle.records.specs.declared.Trailer.{Trailer}
 use Rattle.records.specs.Record.{arrayOf}
 use Rattle.arrays.specs.File.{IsRead}
@@ -62,12 +62,6 @@ claimHolds loads bounds x = ltb (getD bounds (x .balance) 0) (loadIn loads (x .a
 abbrev pub setHolds : Table → (ℕ → Bool) → ℕ → Bool
 setHolds t holds c = every (t .claims) λ d. not (together t c d) || holds d
 
--- of the claims below d, none of the set of a claim before `place` fails; and where `place` is a claim, one of its set does
-pub record Unmet (t : Table) (holds : ℕ → Bool) (d place : ℕ) : Type 0 where
-  pub few : place ≤ t .claims
-  pub passes : (c : ℕ) → c < place → (e : ℕ) → e < d → together t c e ≡ true → holds e ≡ true
-  pub fails : place < t .claims → (e : ℕ) × (e < d) × (together t place e ≡ true) × (holds e ≡ false)
-
 -- the claim's balance and agent have entries in the lists
 pub record ClaimListed (loads bounds : List ℕ) (x : Claim) : Type 0 where
   pub bound : x .balance < length bounds
@@ -77,6 +71,7 @@ pub record ClaimListed (loads bounds : List ℕ) (x : Claim) : Type 0 where
 pub record ClaimsListed (s : List ℕ) (z : Sizes) (loads bounds : List ℕ) : Type 0 where
   pub lie : ClaimsLie s z
   pub listed : (c : ℕ) → c < z .claims → ClaimListed loads bounds (tableOf s z .claim c)
+  pub rise : Rising (tableOf s z)
 
 -- ---- all rules: over a file that was read, lists that stand for a table, and the claims of a table file
 

@@ -11,7 +11,7 @@ ghost use Rattle.arrays.specs.File.{IsRead};
 ghost use Rattle.wire.specs.Numbers.{u32At};
 ghost use Rattle.layout.specs.Table.{balanceAt, claimAt, tableOf, IsTable};
 ghost use Rattle.pairs.specs.Pairs.{listTable, Lists, HalfRow, Weighed};
-ghost use Rattle.rules.specs.Ruling.{ruled, isHeld, from3, ruleBelow, ownMarked, rootFits, claimHolds, setHolds, Unmet, ClaimListed, ClaimsListed};
+ghost use Rattle.rules.specs.Ruling.{ruled, isHeld, from3, ruleBelow, ownMarked, rootFits, claimHolds, setHolds, ClaimListed, ClaimsListed};
 ghost use Rattle.rules.specs.Ruling.{AllListed, claimed};
 use layout::Sizes;
 use model::Claim;
@@ -120,44 +120,19 @@ fn claim_holds(x: Claim, loads: &[u32], bounds: &[u32]) -> bool
     wire::word_long(bounds[balance]) < weight * (most as u64 + 1)
 }
 
-// The lowest claim of a set that is known not to be met, once claim d is looked at too. Q stands for none.
-fn unmet_with(
-    table: &[u8],
-    z: Sizes,
-    loads: &[u32],
-    bounds: &[u32],
-    place: usize,
-    d: usize,
-) -> usize
-    requires { ⌜ ClaimsListed (now table) z (now loads) (now bounds) × (d < z .claims) ⌝ }
-    requires { ⌜ Unmet (tableOf (now table) z) (λ e. claimHolds (now loads) (now bounds) (tableOf (now table) z .claim e)) d place ⌝ }
-    ensures { λ r. ⌜ Unmet (tableOf (now (table .entry)) z)
-        (λ e. claimHolds (now (loads .entry)) (now (bounds .entry)) (tableOf (now (table .entry)) z .claim e)) (d + 1) r ⌝ }
-{
-    if claim_holds(layout::read_claim(table, z, d), loads, bounds) {
-        return place;
-    }
-    let set_first = claims::first_of_set(table, z, d);
-    if set_first < place {
-        return set_first;
-    }
-    place
-}
-
-// Rule 5. A set is met where each of its claims holds alone, since they agree in most and balance (30).
+// Rule 5. A set is met where each of its claims holds alone, since they agree in most and balance (30). Its claims lie side by side (31), so
+// that the first claim that fails alone is of the first set that is not met.
 fn fifth_rule(table: &[u8], z: Sizes, loads: &[u32], bounds: &[u32]) -> Ruling
     requires { ⌜ ClaimsListed (now table) z (now loads) (now bounds) ⌝ }
     ensures { λ r. ⌜ ruled r ≡ ruleBelow (z .claims) 5 (setHolds (tableOf (now (table .entry)) z)
         (λ e. claimHolds (now (loads .entry)) (now (bounds .entry)) (tableOf (now (table .entry)) z .claim e))) ⌝ }
 {
-    let mut place = z.claims;
-    let mut d: usize = 0;
-    while d < z.claims {
-        place = unmet_with(table, z, loads, bounds, place, d);
-        d += 1;
-    }
-    if place < z.claims {
-        return Ruling::Rule5(place);
+    let mut c: usize = 0;
+    while c < z.claims {
+        if !claim_holds(layout::read_claim(table, z, c), loads, bounds) {
+            return Ruling::Rule5(claims::first_of_set(table, z, c));
+        }
+        c += 1;
     }
     Ruling::Held
 }

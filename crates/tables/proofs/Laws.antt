@@ -31,7 +31,7 @@ parts-fill s z e = eqb-true _ _ (and-split (startsFit s z) (eqb (claimAt z (z .c
 
 -- ---- a table that was read
 
--- refusals 13 to 21 and 30 found nothing
+-- refusals 13 to 21, 30 and 31 found nothing
 pub passed-table : (f : List ℕ) (t : Trailer) (s : List ℕ) → tableRefusal f t s ≡ clear → IsTable f t s (sizesOf t s)
 passed-table f t s e =
     let s₁ = andThen-split _ _ e in
@@ -43,6 +43,7 @@ passed-table f t s e =
     let s₇ = andThen-split _ _ (s₆ .1) in
     let s₈ = andThen-split _ _ (s₇ .1) in
     let s₉ = andThen-split _ _ (s₈ .1) in
+    let s₁₀ = andThen-split _ _ (s₉ .1) in
     let counts = counts-fit (sizesOf t s) (test-clear _ _ (s₃ .0)) in
     record {
       laid = record {
@@ -55,7 +56,8 @@ passed-table f t s e =
       rows = s₇ .0;
       weights = s₈ .0;
       claims = s₉ .0;
-      sets = s₉ .1;
+      sets = s₁₀ .0;
+      order = s₁₀ .1;
     }
 
 -- ---- the answer, by the array's and the table's

@@ -1,5 +1,5 @@
--- The table reader: refusals 13 to 21 and 30 in checking order, after the array's, and its answers (01, "Refusals, in checking order"; 02,
--- request i: "30 .. checked after 21").
+-- The table reader: refusals 13 to 21, 30 and 31 in checking order, after the array's, and its answers (01, "Refusals, in checking order"; 02,
+-- request i: "30 .. checked after 21"; request ii: "31 .. checked after 30").
 use Prim.Native.Nat.{ℕ}
 use mathlib.Core.List.{List}
 use Rattle.laws.specs.Search.{Found, clear, hit, andThen}
@@ -9,11 +9,11 @@ use Rattle.records.specs.Record.{arrayOf}
 use Rattle.arrays.specs.File.{arrayRefusal, trailerOf}
 use Rattle.layout.specs.declared.Sizes.{Sizes}
 use Rattle.layout.specs.Table.{sizesOf, refusal13, refusal14, refusal15, refusal16, refusal17, refusal18, refusal19, refusal20}
-use Rattle.layout.specs.Table.{tableOf, refusal21, refusal30}
+use Rattle.layout.specs.Table.{tableOf, refusal21, refusal30, refusal31}
 use Rattle.tables.specs.declared.TableAnswer.{TableAnswer}
 use Rattle.tables.specs.declared.TableAnswer.the-variants.{Read, Refused}
 
--- refusals 13 to 21 and 30 of table s for the array file f whose trailer says t, in checking order
+-- refusals 13 to 21, 30 and 31 of table s for the array file f whose trailer says t, in checking order
 abbrev pub tableRefusal : List ℕ → Trailer → List ℕ → Found F.Refusal
 tableRefusal f t s =
     let z = sizesOf t s in
@@ -24,7 +24,8 @@ tableRefusal f t s =
     (andThen (refusal17 s)
     (andThen (refusal18 t s)
     (andThen (refusal19 (arrayOf f t) s z)
-    (andThen (refusal20 (arrayOf f t) s z) (andThen (refusal21 (arrayOf f t) (tableOf s z)) (refusal30 (tableOf s z))))))))))
+    (andThen (refusal20 (arrayOf f t) s z)
+    (andThen (refusal21 (arrayOf f t) (tableOf s z)) (andThen (refusal30 (tableOf s z)) (refusal31 (tableOf s z)))))))))))
 
 -- "The array is checked before anything else in every call."
 abbrev pub filesRefusal : List ℕ → List ℕ → Found F.Refusal
@@ -40,7 +41,7 @@ readTable f s = sizesAnswer (filesRefusal f s) (sizesOf (trailerOf f) s)
 -- ---- the rest of the search, from a refusal on
 
 abbrev pub from21 : List ℕ → Trailer → List ℕ → Sizes → Found F.Refusal
-from21 f t s z = andThen (refusal21 (arrayOf f t) (tableOf s z)) (refusal30 (tableOf s z))
+from21 f t s z = andThen (refusal21 (arrayOf f t) (tableOf s z)) (andThen (refusal30 (tableOf s z)) (refusal31 (tableOf s z)))
 
 abbrev pub from20 : List ℕ → Trailer → List ℕ → Sizes → Found F.Refusal
 from20 f t s z = andThen (refusal20 (arrayOf f t) s z) (from21 f t s z)

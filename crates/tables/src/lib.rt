@@ -1,4 +1,4 @@
-// The table reader: refusals 13 to 21 and 30 in checking order, after the array's own.
+// The table reader: refusals 13 to 21, 30 and 31 in checking order, after the array's own.
 // Promises specs/Read, for every two byte strings; proofs/Laws says that a table that was read is one (IsTable, in layout).
 // Depends on the crates that check one part each (flows, weights, claims), layout, arrays, records, wire, model and laws.
 ghost use mathlib.Core.Path.{_≡_};
@@ -18,7 +18,7 @@ pub enum TableAnswer {
     Refused(Refusal),
 }
 
-// Refusals 21 and 30.
+// Refusals 21, 30 and 31.
 fn check_claims(file: &[u8], t: Trailer, table: &[u8], z: Sizes) -> Check
     requires { ⌜ RecordsFit (now file) t × (t .nodes ≤ 1024) × (t .names ≤ 256) × Laid t (now table) z ⌝ }
     ensures { λ r. ⌜ foundOf r ≡ from21 (now (file .entry)) t (now (table .entry)) z ⌝ }
@@ -26,10 +26,13 @@ fn check_claims(file: &[u8], t: Trailer, table: &[u8], z: Sizes) -> Check
     if let Check::Refused(r) = claims::bad_claim(file, t, table, z) {
         return Check::Refused(r);
     }
-    claims::bad_set(table, z)
+    if let Check::Refused(r) = claims::bad_set(table, z) {
+        return Check::Refused(r);
+    }
+    claims::bad_order(table, z)
 }
 
-// Refusals 20, 21 and 30.
+// Refusals 20, 21, 30 and 31.
 fn check_numbers(file: &[u8], t: Trailer, table: &[u8], z: Sizes) -> Check
     requires { ⌜ RecordsFit (now file) t × (t .nodes ≤ 1024) × (t .names ≤ 256) × Laid t (now table) z ⌝ }
     ensures { λ r. ⌜ foundOf r ≡ from20 (now (file .entry)) t (now (table .entry)) z ⌝ }
@@ -40,7 +43,7 @@ fn check_numbers(file: &[u8], t: Trailer, table: &[u8], z: Sizes) -> Check
     check_claims(file, t, table, z)
 }
 
-// Refusals 18 to 21 and 30.
+// Refusals 18 to 21, 30 and 31.
 fn check_rows(file: &[u8], t: Trailer, table: &[u8], z: Sizes) -> Check
     requires { ⌜ RecordsFit (now file) t × (t .nodes ≤ 1024) × (t .names ≤ 256) × Laid t (now table) z ⌝ }
     ensures { λ r. ⌜ foundOf r ≡ from18 (now (file .entry)) t (now (table .entry)) z ⌝ }
@@ -67,7 +70,7 @@ fn parts_fit(table: &[u8], z: Sizes) -> bool
         & (layout::claim_at(z, z.claims) + 28 == len)
 }
 
-// Refusals 16 to 21 and 30.
+// Refusals 16 to 21, 30 and 31.
 fn check_parts(file: &[u8], t: Trailer, table: &[u8], z: Sizes) -> Check
     requires { ⌜ RecordsFit (now file) t × (t .nodes ≤ 1024) × (t .names ≤ 256) ⌝ }
     requires { ⌜ (z .nodes ≡ t .nodes) × (z .names ≡ t .names) × (z .balances ≤ 24) × (z .claims ≤ 256) × (28 ≤ length (now table)) ⌝ }
@@ -83,7 +86,7 @@ fn check_parts(file: &[u8], t: Trailer, table: &[u8], z: Sizes) -> Check
     check_rows(file, t, table, z)
 }
 
-// Refusals 14 to 21 and 30.
+// Refusals 14 to 21, 30 and 31.
 fn check_letters(file: &[u8], t: Trailer, table: &[u8], z: Sizes) -> Check
     requires { ⌜ RecordsFit (now file) t × (t .nodes ≤ 1024) × (t .names ≤ 256) ⌝ }
     requires { ⌜ (z .nodes ≡ t .nodes) × (z .names ≡ t .names) × (28 ≤ length (now table)) ⌝ }
@@ -98,7 +101,7 @@ fn check_letters(file: &[u8], t: Trailer, table: &[u8], z: Sizes) -> Check
     check_parts(file, t, table, z)
 }
 
-// Refusals 13 to 21 and 30, of a table for an array that was read.
+// Refusals 13 to 21, 30 and 31, of a table for an array that was read.
 pub fn check_table(file: &[u8], t: Trailer, table: &[u8]) -> Check
     requires { ⌜ RecordsFit (now file) t × (t .nodes ≤ 1024) × (t .names ≤ 256) ⌝ }
     ensures { λ r. ⌜ foundOf r ≡ tableRefusal (now (file .entry)) t (now (table .entry)) ⌝ }

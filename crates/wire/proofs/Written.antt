@@ -15,6 +15,12 @@ pub two-bytes : (s : List ℕ) (at n : ℕ) → n < 65536 → getD s at 0 ≡ n 
 unfolding u16At
 two-bytes s at n small e f = omega arith
 
+-- and its bytes by the number
+pub two-same : (s u : List ℕ) (p q : ℕ) → getD s p 0 < 256 → getD u q 0 < 256 → u16At s p ≡ u16At u q
+    → (getD s p 0 ≡ getD u q 0) × (getD s (p + 1) 0 ≡ getD u (q + 1) 0)
+unfolding u16At
+two-same s u p q h k e = (omega arith, omega arith)
+
 pub number-back : (s : List ℕ) (at n : ℕ) → at + 1 < length s → n < 65536 → u16At (put at (le16 n) s) at ≡ n
 number-back s at n h small =
     let f = getD-written at (le16 n) s 0 0 (omega arith) (omega arith) in

@@ -11,6 +11,7 @@ use std::io;
 use std::path::Path;
 
 const REPAIR_BOTH: u8 = 3;
+const SORT_CLAIMS: u8 = 4;
 /// Larger files only slow the fuzzer down.
 const MOST_BYTES: usize = 8000;
 const RANDOM: u64 = 300;
@@ -28,8 +29,16 @@ fn calls() -> Vec<u8> {
     calls
 }
 
+/// Claims that are in order are sorted, which keeps what the fuzzer makes of them in order.
+fn flags(array: &[u8], table: &[u8]) -> u8 {
+    match plain::check(array, table) {
+        Verdict::Refused(_) => REPAIR_BOTH,
+        _ => REPAIR_BOTH | SORT_CLAIMS,
+    }
+}
+
 fn seed(array: &[u8], table: &[u8]) -> Vec<u8> {
-    let mut bytes = vec![REPAIR_BOTH];
+    let mut bytes = vec![flags(array, table)];
     for file in [array, table] {
         bytes.extend((file.len() as u16).to_le_bytes());
         bytes.extend(file);
@@ -82,23 +91,23 @@ fn random(round: u64) -> Pair {
     (format!("random-{round}"), array, table)
 }
 
-/// A table that has a set of two agents, now and then with a set whose claims differ.
+/// A table that has a set of two agents, now and then with a set whose claims differ, or with claims out of order.
 fn random_sets(round: u64) -> Option<Pair> {
     let mut random = Random::of(2, 0, round);
     let array = arrays::busy(&mut random).bytes();
     let draft = random.pick(&[tables::accepted, tables::nearly]);
     let table = draft(&mut random, &parts::read(&array));
-    let faults = random.pick(&[&[][..], &[30]]);
+    let faults = random.pick(&[&[][..], &[30], &[31]]);
     let bytes = damage::table(&mut random, &table, faults);
     sets::has_wide(&table.claims).then_some((format!("sets-{round}"), array, bytes))
 }
 
-/// Held; broken by a set whose first claim would hold alone; refused by 30.
+/// Held; broken by a set whose first claim would hold alone; refused by 30; by 31.
 fn has_sort(sort: usize, pair: &Pair) -> bool {
     match plain::check(&pair.1, &pair.2) {
         Verdict::Held { .. } => sort == 0,
         Verdict::Rule { number: 5, place } => sort == 1 && sets::holds_alone(&TableFile::read(&pair.2), place[0]),
-        Verdict::Refused(refusal) => sort == 2 && refusal.number == 30,
+        Verdict::Refused(refusal) => sort == 2 && refusal.number == 30 || sort == 3 && refusal.number == 31,
         _ => false,
     }
 }
@@ -106,7 +115,7 @@ fn has_sort(sort: usize, pair: &Pair) -> bool {
 /// As many of each sort, whose files are small enough.
 fn of_each_sort() -> impl Iterator<Item = Pair> {
     let of = |sort| (0..).filter_map(random_sets).filter(move |pair| is_small(pair) && has_sort(sort, pair));
-    (0..3).flat_map(move |sort| of(sort).take(OF_EACH_SORT))
+    (0..4).flat_map(move |sort| of(sort).take(OF_EACH_SORT))
 }
 
 fn is_small(pair: &Pair) -> bool {

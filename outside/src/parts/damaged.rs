@@ -6,7 +6,7 @@ use crate::run::{Call, Run, Setting};
 use crate::{arrays, damage, files, tables};
 
 const ARRAY_FAULTS: [u8; 12] = [1, 2, 3, 4, 5, 6, 7, 8, 9, 10, 11, 12];
-const TABLE_FAULTS: [u8; 10] = [13, 14, 15, 16, 17, 18, 19, 20, 21, 30];
+const TABLE_FAULTS: [u8; 11] = [13, 14, 15, 16, 17, 18, 19, 20, 21, 30, 31];
 
 /// One or two faults in an array file.
 pub fn arrays(run: &mut Run) {

@@ -10,7 +10,7 @@ use crate::parts::{choices, read};
 use crate::random::Random;
 use crate::run::Run;
 use crate::watch::{fail, hex};
-use crate::{arrays, sets, tables};
+use crate::{arrays, order, sets, tables};
 
 const MOST_ATTEMPTS: usize = 24;
 const MOST_THREADS: usize = 40;
@@ -131,40 +131,34 @@ fn break_by(random: &mut Random, table: &TableFile, met: &Configuration, way: us
         _ if table.balances.is_empty() => return None,
         2 => {
             let most = count(met, thread.node) - 1;
-            add_claims(random, &mut broken.claims, &[thread.node], [most, at, 0])?;
+            add_claims(&mut broken.claims, &[thread.node], [most, at, 0])?;
         }
         3 => lower_set(random, &mut broken.claims, met)?,
         _ => {
             let other = met.threads.iter().find(|other| other.node != thread.node)?.node;
-            add_set(random, &mut broken.claims, met, [thread.node, other], at)?;
+            add_set(&mut broken.claims, met, [thread.node, other], at)?;
         }
     }
     Some(broken)
 }
 
-/// Adds a set of two agents, each of which has no more threads than it allows. One agent is named twice.
-fn add_set(
-    random: &mut Random,
-    claims: &mut Vec<Claim>,
-    met: &Configuration,
-    agents: [usize; 2],
-    balance: usize,
-) -> Option<()> {
+/// Adds a set of two agents, each of which has no more threads than it allows.
+fn add_set(claims: &mut Vec<Claim>, met: &Configuration, agents: [usize; 2], balance: usize) -> Option<()> {
     let most = agents.map(|agent| count(met, agent)).iter().sum::<usize>() - 1;
     let unused = (1..).find(|set| claims.iter().all(|claim| usize::from(claim[SET]) != *set))?;
-    let named = [agents[0], agents[1], random.pick(&agents)];
-    add_claims(random, claims, &named, [most, balance, unused])
+    add_claims(claims, &agents, [most, balance, unused])
 }
 
-/// Adds a claim for each agent, with most, balance and set, at any places that there is room for.
-fn add_claims(random: &mut Random, claims: &mut Vec<Claim>, agents: &[usize], rest: [usize; 3]) -> Option<()> {
+/// Adds a claim for each agent, with most, balance and set, if there is room. Order is kept.
+fn add_claims(claims: &mut Vec<Claim>, agents: &[usize], rest: [usize; 3]) -> Option<()> {
     if claims.len() + agents.len() > MOST_CLAIMS {
         return None;
     }
     for agent in agents {
         let [most, balance, set] = rest.map(|number| number as u16);
-        claims.insert(random.between(0, claims.len()), [*agent as u16, most, balance, set]);
+        claims.push([*agent as u16, most, balance, set]);
     }
+    order::put(claims);
     Some(())
 }
 
@@ -180,7 +174,7 @@ fn lower_set(random: &mut Random, claims: &mut [Claim], met: &Configuration) -> 
     Some(())
 }
 
-fn see_broken(run: &mut Run, file: &[u8], array: &Array, bytes: &[u8], met: &Configuration, way: &str) {
+fn see_broken(run: &mut Run, file: &[u8], array: &Array, bytes: &[u8], met: &Configuration, way: &'static str) {
     let table = plain::read_table(file, bytes).expect("a broken table is read");
     let answer = run.check(file, bytes);
     if calculus::safe(array, &table, met) || !(1..=5).contains(&handover::code(answer)) {

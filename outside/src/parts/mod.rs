@@ -5,6 +5,7 @@ mod demand3;
 mod engine;
 mod limits;
 mod mirror;
+mod orders;
 mod verdicts;
 mod walks;
 
@@ -23,7 +24,7 @@ const fn part(name: &'static str, rounds: u64, round: fn(&mut Run)) -> Part {
     Part { name, rounds, round }
 }
 
-pub const PARTS: [Part; 14] = [
+pub const PARTS: [Part; 16] = [
     part("verdicts on small arrays", 30_000, verdicts::small),
     part("verdicts on large arrays", 50, verdicts::large),
     part("damaged arrays", 60_000, damaged::arrays),
@@ -38,6 +39,8 @@ pub const PARTS: [Part; 14] = [
     part("engine beside the calculus", 5_000, mirror::mirror),
     part("demand 3", 12_000, demand3::demand3),
     part("NULL for empty buffers", 200, limits::null),
+    part("claims in other orders", 20_000, orders::orders),
+    part("256 claims", 300, verdicts::crowded),
 ];
 
 /// Reads what a generator of valid arrays made.

@@ -144,6 +144,22 @@ pub fn array_c() -> Vec<u8> {
     array(1, &records)
 }
 
+/// A new over so many outs in a row, which are nodes 1 and on, and a stop.
+pub fn row_of_outs(count: u16) -> Vec<u8> {
+    let mut records = vec![new(0, 1)];
+    records.extend((1..=count).map(|i| out(0, &[], i + 1)));
+    records.push(stop());
+    array(1, &records)
+}
+
+/// The claims by set, agent, most, balance, each once.
+pub fn in_order(claims: &[[u16; 4]]) -> Vec<[u16; 4]> {
+    let mut claims = claims.to_vec();
+    claims.sort_by_key(|[agent, most, balance, set]| [*set, *agent, *most, *balance]);
+    claims.dedup();
+    claims
+}
+
 /// Row {0} and one balance.
 pub fn one_row(bound: u32, weights: &[(usize, u16)]) -> Parts {
     Parts { rows: vec![vec![0]], balances: vec![(bound, weights.to_vec())], claims: vec![] }

@@ -220,7 +220,10 @@ fn weight_3_bound_2_most_0() {
 #[test]
 fn weight_0_never_meets_rule_5() {
     let mut parts = parts_a();
-    parts.claims = vec![[6, 1, 0, 0], [3, 65_535, 0, 0]];
+    parts.claims = vec![[3, 65_535, 0, 0], [6, 1, 0, 0]];
+    assert_eq!(judged(&array_a(), &parts), rule(5, &[0]));
+    parts.balances[0].1 = vec![(5, 1)];
+    parts.claims = vec![[5, 1, 0, 0], [6, 65_535, 0, 0]];
     assert_eq!(judged(&array_a(), &parts), rule(5, &[1]));
 }
 

@@ -1,5 +1,6 @@
 mod build;
 mod cases;
+mod order;
 mod random;
 mod refusals;
 mod sets;

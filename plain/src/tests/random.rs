@@ -180,7 +180,7 @@ fn add_set(dice: &mut Dice, agents: &[usize], set: u16, parts: &mut Parts) {
     parts.claims.extend(picked.iter().map(claim));
 }
 
-/// A table with least rows, random weights, and claims in any order.
+/// A table with least rows, random weights, and claims in any order with repeats.
 fn random_parts(dice: &mut Dice, array: &Array) -> Parts {
     let agents: Vec<usize> = (0..array.nodes().len()).filter(|i| array.agent(*i).is_some()).collect();
     let mut parts = Parts { rows: least_rows(array), ..Parts::default() };
@@ -202,6 +202,11 @@ fn random_parts(dice: &mut Dice, array: &Array) -> Parts {
         }
     }
     parts
+}
+
+/// The same parts with their claims in order.
+fn ordered(parts: &Parts) -> Parts {
+    Parts { claims: in_order(&parts.claims), ..parts.clone() }
 }
 
 /// Whether two claims, by their places, stand for one set or are the same claim.
@@ -410,7 +415,7 @@ fn accepted_tables_are_safe() {
     for _ in 0..12_000 {
         let (file, _) = random_array(&mut dice, 40);
         let array = read_array(&file).unwrap();
-        let parts = random_parts(&mut dice, &array);
+        let parts = ordered(&random_parts(&mut dice, &array));
         let bytes = table(&file, &parts);
         if parts.balances.is_empty() || !matches!(check(&file, &bytes), Verdict::Held { .. }) {
             continue;
@@ -443,12 +448,12 @@ fn safe_counts_the_threads_of_a_set() {
     for _ in 0..600 {
         let (file, names) = random_array(&mut dice, 60);
         let array = read_array(&file).unwrap();
-        // Rows and bounds that always hold.
+        // Rows and bounds that always hold. The table says in order what the claims say as they come.
         let mut parts = random_parts(&mut dice, &array);
         parts.rows = vec![array.opened().iter().collect(); names];
         parts.balances.iter_mut().for_each(|balance| balance.0 = u32::MAX);
         let claims = &parts.claims;
-        let table = read_table(&file, &table(&file, &parts)).unwrap();
+        let table = read_table(&file, &table(&file, &ordered(&parts))).unwrap();
         let mut configuration = begin(&array, &|_| false);
         for _ in 0..20 {
             let holds = |i| spoken_of(claims, i, &configuration) <= usize::from(claims[i][1]);
@@ -465,74 +470,141 @@ fn safe_counts_the_threads_of_a_set() {
     assert!(answers.iter().all(|count| *count > 500), "{answers:?}");
 }
 
-/// Refusals 21 and 30 and rule 5 for array A, claim by claim. Agent 3 has no weight.
-fn slow_claims(claims: &[[u16; 4]], balances: &[(u32, Vec<(usize, u16)>)]) -> Option<(u8, usize)> {
+/// Refusals 21 and 30 for array A, claim by claim, as number and place.
+fn slow_refusals(claims: &[[u16; 4]], balances: &[(u32, Vec<(usize, u16)>)]) -> Option<(u8, usize)> {
     let places = 0..claims.len();
     let is_wrong = |i: &usize| !matches!(claims[*i][0], 3 | 5 | 6) || usize::from(claims[*i][2]) >= balances.len();
-    if let Some(place) = places.clone().find(is_wrong) {
-        return Some((21, place));
-    }
     let differs = |i: &usize| (0..*i).any(|j| one_set(claims, *i, j) && claims[*i][1..3] != claims[j][1..3]);
-    if let Some(place) = places.clone().find(differs) {
-        return Some((30, place));
-    }
+    let wrong = places.clone().find(is_wrong).map(|place| (21, place));
+    wrong.or_else(|| places.clone().find(differs).map(|place| (30, place)))
+}
+
+/// Refusal 31, with each claim taken as one number of 64 bits.
+fn slow_order(claims: &[[u16; 4]]) -> Option<(u8, usize)> {
+    let whole = |claim: &[u16; 4]| [3, 0, 1, 2].iter().fold(0, |sum, i| sum * 65_536 + u64::from(claim[*i]));
+    let rises = |pair: &[[u16; 4]]| whole(&pair[0]) < whole(&pair[1]);
+    claims.windows(2).position(|pair| !rises(pair)).map(|first| (31, first + 1))
+}
+
+/// Rule 5 for array A, claim by claim. Agent 3 has no weight.
+fn slow_rule_5(claims: &[[u16; 4]], balances: &[(u32, Vec<(usize, u16)>)]) -> Option<(u8, usize)> {
     // A set's least weight will do if each of its weights will do.
     let fails = |j: usize| {
         let (bound, weights) = &balances[usize::from(claims[j][2])];
         let weight = weights.iter().find(|(agent, _)| *agent == usize::from(claims[j][0])).map_or(0, |pair| pair.1);
         u64::from(weight) * (u64::from(claims[j][1]) + 1) <= u64::from(*bound)
     };
-    let in_failing_set = |i: &usize| places.clone().any(|j| one_set(claims, *i, j) && fails(j));
-    places.clone().find(in_failing_set).map(|place| (5, place))
+    let in_failing_set = |i: &usize| (0..claims.len()).any(|j| one_set(claims, *i, j) && fails(j));
+    (0..claims.len()).find(in_failing_set).map(|place| (5, place))
+}
+
+/// Parts of a table for array A with random claims, in any order and with repeats.
+fn random_claims(dice: &mut Dice) -> Parts {
+    let mut parts = parts_a();
+    parts.balances = vec![(5, vec![(5, 5), (6, 2)]), (1, vec![(5, 1), (6, 1)])];
+    let rarely = 3 + dice.below(30);
+    let mut sets = [0, 1, 256, 65_535].map(|set| [0, dice.below(4) as u16, dice.below(2) as u16, set]);
+    parts.claims.clear();
+    for _ in 0..dice.below(8) {
+        sets[0][1] = dice.below(4) as u16;
+        let mut claim = sets[dice.below(4)];
+        claim[0] = 5 + dice.below(2) as u16;
+        match dice.below(rarely) {
+            0 => claim[dice.below(3)] = dice.below(4) as u16,
+            1 => claim[1 + dice.below(2)] = dice.below(2) as u16,
+            2 => claim[0] = 3,
+            _ => {}
+        }
+        parts.claims.push(claim);
+    }
+    parts
+}
+
+/// Number and place of a refusal or of rule 5, none if the table is held.
+fn judged_a(parts: &Parts) -> Option<(u8, usize)> {
+    let a = array_a();
+    match check(&a, &table(&a, parts)) {
+        Verdict::Refused(refusal) => Some((refusal.number, refusal.place)),
+        Verdict::Rule { number: 5, place } => Some((5, place[0])),
+        Verdict::Rule { number, .. } => panic!("rule {number}"),
+        Verdict::Held { .. } => None,
+    }
 }
 
 #[test]
 fn claims_are_judged_by_sets() {
     let mut dice = Dice(7);
-    let a = array_a();
     let mut found = BTreeMap::new();
     for _ in 0..20_000 {
-        let mut parts = parts_a();
-        parts.balances = vec![(5, vec![(5, 5), (6, 2)]), (1, vec![(5, 1), (6, 1)])];
-        let rarely = 3 + dice.below(30);
-        let mut sets = [0, 1, 256, 65_535].map(|set| [0, dice.below(4) as u16, dice.below(2) as u16, set]);
-        parts.claims.clear();
-        for _ in 0..dice.below(8) {
-            sets[0][1] = dice.below(4) as u16;
-            let mut claim = sets[dice.below(4)];
-            claim[0] = 5 + dice.below(2) as u16;
-            match dice.below(rarely) {
-                0 => claim[dice.below(3)] = dice.below(4) as u16,
-                1 => claim[1 + dice.below(2)] = dice.below(2) as u16,
-                2 => claim[0] = 3,
-                _ => {}
-            }
-            parts.claims.push(claim);
+        let mut parts = random_claims(&mut dice);
+        if dice.below(3) > 0 {
+            parts = ordered(&parts);
         }
-        let expected = slow_claims(&parts.claims, &parts.balances);
-        match (check(&a, &table(&a, &parts)), expected) {
-            (Verdict::Refused(refusal), Some((number, place))) => {
-                assert_eq!((refusal.number, refusal.place), (number, place), "{:?}", parts.claims)
-            }
-            (Verdict::Rule { number, place }, Some((5, first))) => {
-                assert_eq!((number, place), (5, vec![first]), "{:?}", parts.claims)
-            }
-            (Verdict::Held { .. }, None) => {}
-            (verdict, expected) => panic!("{verdict:?} {expected:?} {:?}", parts.claims),
-        }
+        let (claims, balances) = (&parts.claims, &parts.balances);
+        let expected =
+            slow_refusals(claims, balances).or_else(|| slow_order(claims)).or_else(|| slow_rule_5(claims, balances));
+        assert_eq!(judged_a(&parts), expected, "{claims:?}");
         *found.entry(expected.map_or(0, |answer| answer.0)).or_insert(0) += 1;
+    }
+    assert!(found.len() == 5 && found.values().all(|count| *count > 1000), "{found:?}");
+}
+
+#[test]
+fn order_and_repeats_decide_nothing_but_31() {
+    let mut dice = Dice(8);
+    let mut found = BTreeMap::new();
+    for _ in 0..20_000 {
+        let parts = random_claims(&mut dice);
+        let (claims, balances) = (&parts.claims, &parts.balances);
+        // What is said of the claims as they come, but for 31.
+        let expected = slow_refusals(claims, balances).or_else(|| slow_rule_5(claims, balances));
+        let number = |answer: Option<(u8, usize)>| answer.map_or(0, |answer| answer.0);
+        assert_eq!(number(judged_a(&ordered(&parts))), number(expected), "{claims:?}");
+        *found.entry(number(expected)).or_insert(0) += 1;
     }
     assert!(found.len() == 4 && found.values().all(|count| *count > 1000), "{found:?}");
 }
 
 #[test]
+fn claims_put_in_order_pass_31() {
+    let mut dice = Dice(9);
+    let file = row_of_outs(600);
+    let (mut repeats, mut rising) = (0, 0);
+    for _ in 0..500 {
+        let values = [4, 40, 600][dice.below(3)];
+        let longest = [3, 256][dice.below(2)];
+        let mut claims = vec![];
+        for _ in 0..dice.below(longest + 1) {
+            // Claims of a set agree in most and balance.
+            let set = [0, dice.below(values) * 109][dice.below(2)] as u16;
+            let (most, balance) = if set == 0 { (109 * dice.below(values), dice.below(24)) } else { (300, 3) };
+            claims.push([1 + dice.below(values) as u16, most as u16, balance as u16, set]);
+        }
+        let parts = Parts { rows: vec![vec![0]], balances: vec![(9, vec![]); 24], claims };
+        let sorted = ordered(&parts);
+        repeats += parts.claims.len() - sorted.claims.len();
+        let read = read_table(&file, &table(&file, &sorted)).unwrap();
+        assert_eq!(read.claims().len(), sorted.claims.len());
+        let as_they_come = read_table(&file, &table(&file, &parts));
+        match slow_order(&parts.claims) {
+            Some((number, place)) => assert_eq!(as_they_come, Err(Refusal { number, place })),
+            None => {
+                assert_eq!(as_they_come, Ok(read));
+                rising += 1;
+            }
+        }
+    }
+    assert!(repeats > 500 && rising > 50, "{repeats} {rising}");
+}
+
+#[test]
 fn spoiled_files_are_refused_or_read() {
     let mut dice = Dice(4);
-    let mut numbers = [0; 31];
+    let mut numbers = [0; 32];
     for round in 0..20_000 {
         let (mut file, names) = random_array(&mut dice, 24);
         let mut bytes = match read_array(&file) {
-            Ok(array) => table(&file, &random_parts(&mut dice, &array)),
+            Ok(array) => table(&file, &ordered(&random_parts(&mut dice, &array))),
             Err(refusal) => panic!("{refusal:?}"),
         };
         let spoiled = if round % 2 == 0 { &mut file } else { &mut bytes };
@@ -568,7 +640,7 @@ fn spoiled_files_are_refused_or_read() {
         let _ = walk(&file, &choices, &mut threads, thread_count, &mut markers, marker_count, 9);
     }
     assert!(numbers[..=27].iter().filter(|count| **count > 0).count() > 20, "{numbers:?}");
-    assert!(numbers[30] > 0, "{numbers:?}");
+    assert!(numbers[30] > 0 && numbers[31] > 0, "{numbers:?}");
 }
 
 /// Refusal 12 by going up the tree from each node.

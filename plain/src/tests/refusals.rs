@@ -65,7 +65,7 @@ fn the_largest_array_is_read() {
     let parts = Parts {
         rows: (0..256).map(|o| vec![o]).collect(),
         balances: vec![(65_535 * 65_536 - 1, vec![(1022, 65_535)]); 24],
-        claims: vec![[1022, 65_535, 23, 0]; 256],
+        claims: (0..256).map(|set| [1022, 65_535, 23, set]).collect(),
     };
     let table = table(&file, &parts);
     assert_eq!(table.len(), 59_516);
@@ -216,9 +216,9 @@ fn refusals_19_to_21() {
     }
     for set in [0, 1, 255, 256, 65_535] {
         let mut parts = parts_a();
-        parts.claims.push([5, 1, 0, set]);
+        parts.claims.push([6, 2, 0, set]);
         let read = read_table(&a, &table(&a, &parts)).unwrap();
-        assert_eq!(read.claims()[1], Claim { agent: 5, most: 1, balance: 0, set });
+        assert_eq!(read.claims()[1], Claim { agent: 6, most: 2, balance: 0, set });
     }
 }
 

@@ -11,6 +11,12 @@ fn a_with(claims: &[[u16; 4]]) -> String {
     judge_text(&a, &table(&a, &Parts { claims: claims.to_vec(), ..parts_a() }))
 }
 
+/// The same where agent 6 has no weight either, so that the last agent of a set may fail.
+fn a_without_6(claims: &[[u16; 4]]) -> String {
+    let a = array_a();
+    judge_text(&a, &table(&a, &Parts { claims: claims.to_vec(), balances: vec![(1, vec![(5, 1)])], ..parts_a() }))
+}
+
 /// Whether claims hold of a configuration, beside rows and balances that do.
 fn is_safe(file: &[u8], parts: &Parts, claims: &[[u16; 4]], configuration: &Configuration) -> bool {
     let parts = Parts { claims: claims.to_vec(), ..parts.clone() };
@@ -21,7 +27,7 @@ fn is_safe(file: &[u8], parts: &Parts, claims: &[[u16; 4]], configuration: &Conf
 #[test]
 fn a_with_5_and_6_in_one_set() {
     assert_eq!(a_with(&[[5, 1, 0, 7], [6, 1, 0, 7]]), "held 8 3 1 2\n");
-    assert_eq!(a_with(&[[6, 1, 0, 7], [5, 1, 0, 7]]), "held 8 3 1 2\n");
+    assert_eq!(a_with(&[[6, 1, 0, 7], [5, 1, 0, 7]]), "refused 31 1\n");
     assert_eq!(a_with(&[[5, 0, 0, 7], [6, 0, 0, 7]]), "rule 5 0\n");
     assert_eq!(a_with(&[[6, 1, 0, 0], [5, 0, 0, 7], [6, 0, 0, 7]]), "rule 5 1\n");
     assert_eq!(a_with(&[[6, 1, 0, 7]]), "held 8 3 1 1\n");
@@ -32,9 +38,10 @@ fn a_with_5_and_6_in_one_set() {
 fn a_weight_of_0_is_the_least() {
     for most in [0, 1, 65_535] {
         assert_eq!(a_with(&[[3, most, 0, 7], [6, most, 0, 7]]), "rule 5 0\n");
-        assert_eq!(a_with(&[[6, most, 0, 7], [3, most, 0, 7]]), "rule 5 0\n");
+        assert_eq!(a_without_6(&[[5, most, 0, 7], [6, most, 0, 7]]), "rule 5 0\n");
     }
-    assert_eq!(a_with(&[[6, 1, 0, 7], [5, 1, 0, 8], [3, 1, 0, 8]]), "rule 5 1\n");
+    assert_eq!(a_with(&[[6, 1, 0, 7], [3, 1, 0, 8], [5, 1, 0, 8]]), "rule 5 1\n");
+    assert_eq!(a_without_6(&[[5, 1, 0, 7], [5, 1, 0, 8], [6, 1, 0, 8]]), "rule 5 1\n");
 }
 
 #[test]
@@ -42,10 +49,10 @@ fn the_least_weight_counts_and_not_the_greatest() {
     let a = array_a();
     let lines = [(1, "rule 5 0\n"), (2, "rule 5 0\n"), (3, "held 8 3 1 2\n")];
     for (most, line) in lines {
-        for agents in [[5, 6], [6, 5]] {
+        for weights in [vec![(5, 3), (6, 1)], vec![(3, 2), (5, 1), (6, 3)]] {
             let mut parts = parts_a();
-            parts.balances[0] = (3, vec![(5, 3), (6, 1)]);
-            parts.claims = agents.map(|agent| [agent, most, 0, 7]).to_vec();
+            parts.balances[0] = (3, weights);
+            parts.claims = vec![[5, most, 0, 7], [6, most, 0, 7]];
             assert_eq!(judge_text(&a, &table(&a, &parts)), line);
         }
     }
@@ -60,52 +67,63 @@ fn the_set_has_its_own_balance() {
     assert_eq!(judge_text(&a, &table(&a, &parts)), "held 8 3 2 2\n");
     parts.claims = vec![[5, 1, 0, 7], [6, 1, 0, 7]];
     assert_eq!(judge_text(&a, &table(&a, &parts)), "rule 5 0\n");
-    parts.claims = vec![[5, 1, 1, 8], [5, 1, 0, 7], [6, 1, 1, 8], [6, 1, 0, 7]];
-    assert_eq!(judge_text(&a, &table(&a, &parts)), "rule 5 1\n");
+    parts.claims = vec![[5, 1, 1, 7], [6, 1, 1, 7], [5, 1, 0, 8], [6, 1, 0, 8]];
+    assert_eq!(judge_text(&a, &table(&a, &parts)), "rule 5 2\n");
 }
 
 #[test]
-fn an_agent_may_be_named_twice() {
-    assert_eq!(a_with(&[[6, 1, 0, 7], [6, 1, 0, 7]]), "held 8 3 1 2\n");
-    assert_eq!(a_with(&[[6, 1, 0, 7], [5, 1, 0, 7], [6, 1, 0, 7]]), "held 8 3 1 3\n");
-    assert_eq!(a_with(&[[6, 0, 0, 7], [6, 0, 0, 7]]), "rule 5 0\n");
-    // In two sets and alone.
-    assert_eq!(a_with(&[[6, 1, 0, 7], [6, 2, 0, 8], [6, 3, 0, 0]]), "held 8 3 1 3\n");
+fn a_set_names_an_agent_once() {
+    assert_eq!(a_with(&[[6, 1, 0, 7], [6, 1, 0, 7]]), "refused 31 1\n");
+    assert_eq!(a_with(&[[6, 1, 0, 7], [5, 1, 0, 7], [6, 1, 0, 7]]), "refused 31 1\n");
+    assert_eq!(a_with(&[[5, 1, 0, 7], [6, 1, 0, 7], [6, 1, 0, 7]]), "refused 31 2\n");
+    assert_eq!(a_with(&[[6, 0, 0, 7], [6, 0, 0, 7]]), "refused 31 1\n");
+    // By differing claims it can't be named twice either.
+    assert_eq!(a_with(&[[6, 1, 0, 7], [6, 2, 0, 7]]), "refused 30 1\n");
+}
+
+#[test]
+fn an_agent_may_be_in_two_sets_and_alone() {
+    assert_eq!(a_with(&[[6, 3, 0, 0], [6, 1, 0, 7], [6, 2, 0, 8]]), "held 8 3 1 3\n");
+    assert_eq!(a_with(&[[6, 1, 0, 0], [6, 1, 0, 7], [6, 1, 0, 8]]), "held 8 3 1 3\n");
+    assert_eq!(a_with(&[[6, 1, 0, 0], [6, 1, 0, 7], [6, 0, 0, 8]]), "rule 5 2\n");
 }
 
 #[test]
 fn claims_of_set_0_stand_alone() {
     assert_eq!(a_with(&[[6, 1, 0, 0], [6, 2, 0, 0]]), "held 8 3 1 2\n");
-    assert_eq!(a_with(&[[6, 2, 0, 0], [6, 1, 0, 0], [5, 1, 0, 0]]), "held 8 3 1 3\n");
-    assert_eq!(a_with(&[[6, 1, 0, 0], [6, 0, 0, 0]]), "rule 5 1\n");
-    assert_eq!(a_with(&[[6, 1, 0, 0], [3, 1, 0, 0], [5, 1, 0, 0]]), "rule 5 1\n");
+    assert_eq!(a_with(&[[5, 1, 0, 0], [6, 1, 0, 0], [6, 2, 0, 0]]), "held 8 3 1 3\n");
+    assert_eq!(a_with(&[[6, 0, 0, 0], [6, 1, 0, 0]]), "rule 5 0\n");
+    assert_eq!(a_with(&[[5, 1, 0, 0], [6, 0, 0, 0], [6, 1, 0, 0]]), "rule 5 1\n");
+    assert_eq!(a_without_6(&[[5, 1, 0, 0], [5, 2, 0, 0], [6, 1, 0, 0]]), "rule 5 2\n");
 }
 
 #[test]
-fn the_claims_of_a_set_may_lie_apart() {
-    assert_eq!(a_with(&[[5, 1, 0, 7], [6, 1, 0, 0], [6, 1, 0, 7]]), "held 8 3 1 3\n");
-    assert_eq!(a_with(&[[5, 0, 0, 7], [6, 1, 0, 0], [6, 0, 0, 7]]), "rule 5 0\n");
-    assert_eq!(a_with(&[[6, 1, 0, 0], [5, 1, 0, 7], [6, 1, 0, 0], [3, 1, 0, 7]]), "rule 5 1\n");
+fn the_claims_of_a_set_lie_together() {
+    assert_eq!(a_with(&[[6, 1, 0, 0], [5, 1, 0, 7], [6, 1, 0, 7]]), "held 8 3 1 3\n");
+    assert_eq!(a_with(&[[5, 1, 0, 7], [6, 1, 0, 0], [6, 1, 0, 7]]), "refused 31 1\n");
+    assert_eq!(a_with(&[[5, 0, 0, 7], [6, 1, 0, 0], [6, 0, 0, 7]]), "refused 31 1\n");
+    assert_eq!(a_with(&[[5, 1, 0, 7], [6, 1, 0, 8], [6, 1, 0, 7]]), "refused 31 2\n");
+    assert_eq!(a_with(&[[6, 1, 0, 0], [5, 1, 0, 7], [6, 1, 0, 0], [3, 1, 0, 7]]), "refused 31 2\n");
 }
 
 #[test]
 fn the_lowest_first_claim_is_named() {
-    // Claim 1 fails before claim 3, but the set of claim 3 begins at claim 0.
-    assert_eq!(a_with(&[[6, 1, 0, 7], [3, 1, 0, 8], [6, 1, 0, 8], [3, 1, 0, 7]]), "rule 5 0\n");
-    assert_eq!(a_with(&[[6, 1, 0, 8], [3, 1, 0, 7], [6, 1, 0, 7], [3, 1, 0, 8]]), "rule 5 0\n");
-    assert_eq!(a_with(&[[6, 1, 0, 7], [3, 1, 0, 0], [3, 1, 0, 7]]), "rule 5 0\n");
-    // Only the set that begins at claim 1 fails.
-    assert_eq!(a_with(&[[6, 1, 0, 7], [6, 1, 0, 8], [5, 1, 0, 7], [3, 1, 0, 8]]), "rule 5 1\n");
-    assert_eq!(a_with(&[[6, 1, 0, 8], [6, 1, 0, 7], [5, 1, 0, 8], [3, 1, 0, 7]]), "rule 5 1\n");
-    // A single claim goes before a set that begins after it.
-    assert_eq!(a_with(&[[5, 1, 0, 0], [3, 1, 0, 0], [3, 1, 0, 7], [6, 1, 0, 7]]), "rule 5 1\n");
+    // Both sets fail.
+    assert_eq!(a_with(&[[3, 1, 0, 7], [6, 1, 0, 7], [3, 1, 0, 8], [6, 1, 0, 8]]), "rule 5 0\n");
+    // Only the set that begins at claim 2 fails.
+    assert_eq!(a_with(&[[5, 1, 0, 7], [6, 1, 0, 7], [3, 1, 0, 8], [6, 1, 0, 8]]), "rule 5 2\n");
+    assert_eq!(a_with(&[[5, 1, 0, 0], [6, 1, 0, 0], [3, 1, 0, 7], [6, 1, 0, 7]]), "rule 5 2\n");
+    // Claim 2 fails, and its set begins at claim 1.
+    assert_eq!(a_without_6(&[[5, 1, 0, 0], [5, 1, 0, 7], [6, 1, 0, 7], [6, 1, 0, 8]]), "rule 5 1\n");
+    // A single claim goes before every set.
+    assert_eq!(a_with(&[[5, 1, 0, 0], [6, 0, 0, 0], [3, 1, 0, 7], [6, 1, 0, 7]]), "rule 5 1\n");
 }
 
 #[test]
 fn all_16_bits_of_a_set_number_count() {
     for set in [1, 255, 256, 65_535] {
         assert_eq!(a_with(&[[5, 1, 0, set], [6, 1, 0, set]]), "held 8 3 1 2\n");
-        assert_eq!(a_with(&[[6, 1, 0, 0], [6, 1, 0, set], [3, 1, 0, set]]), "rule 5 1\n");
+        assert_eq!(a_with(&[[6, 1, 0, 0], [3, 1, 0, set], [6, 1, 0, set]]), "rule 5 1\n");
         assert_eq!(a_with(&[[5, 1, 0, set], [6, 2, 0, set]]), "refused 30 1\n");
     }
     for (one, other) in [(0, 256), (1, 257), (255, 65_535), (256, 65_280), (1, 2)] {
@@ -116,23 +134,29 @@ fn all_16_bits_of_a_set_number_count() {
 
 #[test]
 fn as_many_claims_as_fit() {
-    let a = array_a();
-    let mut parts = parts_a();
-    parts.balances[0] = (65_535 * 65_536 - 1, vec![(5, 65_535), (6, 65_535)]);
-    parts.claims = (0..256).map(|i| [5 + i % 2, 65_535, 0, 7]).collect();
-    assert_eq!(judge_text(&a, &table(&a, &parts)), "held 8 3 1 256\n");
-    parts.claims[255][0] = 3;
-    assert_eq!(judge_text(&a, &table(&a, &parts)), "rule 5 0\n");
+    // Agents 1 to 257, of which claims name 1 to 256.
+    let file = row_of_outs(257);
+    let mut parts = one_row(65_535 * 65_536 - 1, &[]);
+    parts.balances[0].1 = (1..257).map(|agent| (agent, 65_535)).collect();
+    parts.claims = (1..257).map(|agent| [agent, 65_535, 0, 7]).collect();
+    let judged = |parts: &Parts| judge_text(&file, &table(&file, parts));
+    assert_eq!(judged(&parts), "held 259 1 1 256\n");
+    // Agent 257 has no weight.
+    parts.claims[255][0] = 257;
+    assert_eq!(judged(&parts), "rule 5 0\n");
     parts.claims[255][1] = 0;
-    assert_eq!(judge_text(&a, &table(&a, &parts)), "refused 30 255\n");
-    for (i, claim) in parts.claims.iter_mut().enumerate() {
-        claim[3] = 65_535 - i as u16;
+    assert_eq!(judged(&parts), "refused 30 255\n");
+    parts.claims[255] = parts.claims[254];
+    assert_eq!(judged(&parts), "refused 31 255\n");
+    parts.claims[255] = [257, 0, 0, 7];
+    for (claim, set) in parts.claims.iter_mut().zip(65_280..=65_535) {
+        claim[3] = set;
     }
-    assert_eq!(judge_text(&a, &table(&a, &parts)), "rule 5 255\n");
+    assert_eq!(judged(&parts), "rule 5 255\n");
 }
 
 #[test]
-fn safe_adds_the_agents_of_a_set_once() {
+fn safe_adds_the_agents_of_a_set() {
     let a = array_a();
     let array = read_array(&a).unwrap();
     let left = |_| false;
@@ -146,15 +170,13 @@ fn safe_adds_the_agents_of_a_set_once() {
     assert_eq!(both(&[[3, 1, 0, 7], [5, 1, 0, 8]]), [true, true]);
     assert_eq!(both(&[[5, 1, 0, 7], [6, 1, 0, 7]]), [true, true]);
     assert_eq!(both(&[[5, 0, 0, 7], [6, 0, 0, 7]]), [false, false]);
-    // Agents named twice.
-    assert_eq!(both(&[[6, 1, 0, 7], [6, 1, 0, 7]]), [true, true]);
-    assert_eq!(both(&[[6, 0, 0, 7], [6, 0, 0, 7]]), [true, false]);
-    assert_eq!(both(&[[5, 1, 0, 7], [6, 1, 0, 7], [5, 1, 0, 7]]), [true, true]);
-    assert_eq!(both(&[[3, 2, 0, 7], [5, 2, 0, 7], [3, 2, 0, 7]]), [true, true]);
+    // Agents in two sets, and alone too.
+    assert_eq!(both(&[[3, 1, 0, 7], [6, 1, 0, 7], [5, 1, 0, 8], [6, 1, 0, 8]]), [true, true]);
+    assert_eq!(both(&[[6, 0, 0, 7], [5, 1, 0, 8], [6, 1, 0, 8]]), [true, false]);
+    assert_eq!(both(&[[6, 1, 0, 0], [5, 1, 0, 7], [6, 1, 0, 7]]), [true, true]);
+    assert_eq!(both(&[[6, 1, 0, 0], [3, 1, 0, 7], [5, 1, 0, 7]]), [false, true]);
     // Claims of one agent alone, each by its own most.
-    assert_eq!(both(&[[6, 1, 0, 0], [6, 0, 0, 0]]), [true, false]);
-    // A set whose claims lie apart.
-    assert_eq!(both(&[[3, 1, 0, 7], [6, 1, 0, 0], [5, 1, 0, 7]]), [false, true]);
+    assert_eq!(both(&[[6, 0, 0, 0], [6, 1, 0, 0]]), [true, false]);
 }
 
 #[test]

@@ -1,4 +1,4 @@
--- Refusal 20, and 21 and 30 where it passes.
+-- Refusal 20, and 21, 30 and 31 where it passes.
 use Rattle.records.proofs.Checks.{refuses, goes-on, passes}
 use borrow.Author.Needs.{needs}
 use Rattle.tables.proofs.check_numbers.Statement.{statement}
