@@ -40,7 +40,7 @@ pub const PARTS: [Part; 16] = [
     part("demand 3", 12_000, demand3::demand3),
     part("NULL for empty buffers", 200, limits::null),
     part("claims in other orders", 20_000, orders::orders),
-    part("256 claims", 300, verdicts::crowded),
+    part("256 claims", 600, verdicts::crowded),
 ];
 
 /// Reads what a generator of valid arrays made.
