@@ -27,13 +27,15 @@ use Rattle.model.specs.Memory.{Result, stops, leaves, standsFor}
 use Rattle.model.specs.Rules as U
 use Rattle.model.specs.Rules.{Table, Live, Rule2, Rule3, Rule4At, ClaimsFit, Broken, at, verdict}
 use Rattle.model.specs.Rules.{FirstPair, FirstBroken, broken1, broken2, broken3, broken4, broken5}
+use Rattle.model.specs.declared.Claim.{Claim}
 use Rattle.model.specs.Safe as Z
+use Rattle.model.specs.Same.{Among}
 use Rattle.model.specs.Safe.{Safe, Flows}
 use Rattle.model.specs.Cases.{A, B, D, tableA, table, claim, claimIn, rowsA, weightsA}
 use Rattle.model.specs.Cases.{limits, brimful, joint, tableD, opened, thread, threeOfA, twiceBroken, H, tableH}
 use Rattle.model.proofs.Verdict.{live-Live, first5}
 use Rattle.model.specs.Cases.{pair, lists, walkEnded, A₁, B₀, B₁, B₁₂, B₂, B₃, B₄, G, G₁, G₂, Row, Says}
-use Rattle.model.specs.Cases.{rows, setRows, safeRows, stepRows, walkRows, toldRows, laterRows}
+use Rattle.model.specs.Cases.{rows, setRows, sameRows, safeRows, stepRows, walkRows, toldRows, laterRows}
 use Rattle.model.proofs.Safety.{demand3}
 
 -- Whoever unfolds this unfolds every definition of the model.
@@ -144,6 +146,45 @@ unsafe-first s = let z : 2 ≤ 1 = s .claims 0 (omega arith) in absurd (omega (a
 sums-joint : Says (Row.sums A (joint 2) 1 (threeOfA (opened 1)) 3)
 unfolding computed table
 sums-joint = refl
+
+-- ---- claims as a set
+
+same-any : Says (Row.same (brimful (claim 6 2 ∷ claimIn 7 3 1 ∷ claim 6 2 ∷ [])) (brimful (claimIn 7 3 1 ∷ claim 6 2 ∷ [])))
+unfolding table
+same-any = record { there = there; back = back }
+  where
+    there : (c : ℕ) → c < 3 → Among (brimful (claimIn 7 3 1 ∷ claim 6 2 ∷ [])) (brimful (claim 6 2 ∷ claimIn 7 3 1 ∷ claim 6 2 ∷ []) .claim c)
+    there zero h = (1, omega arith, refl)
+    there (suc zero) h = (0, omega arith, refl)
+    there (suc (suc zero)) h = (1, omega arith, refl)
+    there (suc (suc (suc c))) h = absurd (omega (arith, h))
+
+    back : (c : ℕ) → c < 2 → Among (brimful (claim 6 2 ∷ claimIn 7 3 1 ∷ claim 6 2 ∷ [])) (brimful (claimIn 7 3 1 ∷ claim 6 2 ∷ []) .claim c)
+    back zero h = (1, omega arith, refl)
+    back (suc zero) h = (0, omega arith, refl)
+    back (suc (suc c)) h = absurd (omega (arith, h))
+
+-- a table of agent 6 alone has no claim of agent 3
+none-of-three : (c : ℕ) → c < 1 → brimful (claim 6 2 ∷ []) .claim c ≡ claimIn 7 3 1 → ⊥
+unfolding table
+none-of-three zero h e = eqb-false 6 3 refl (ap (λ (x : Claim). x .agent) e)
+none-of-three (suc c) h e = absurd (omega (arith, h))
+
+lacks-there : Says (Row.other (brimful (claim 6 2 ∷ claimIn 7 3 1 ∷ [])) (brimful (claim 6 2 ∷ [])))
+unfolding table
+lacks-there s = let a = s .there 1 (omega arith) in none-of-three (a .0) (a .1) (a .2)
+
+lacks-back : Says (Row.other (brimful (claim 6 2 ∷ [])) (brimful (claim 6 2 ∷ claimIn 7 3 1 ∷ [])))
+unfolding table
+lacks-back s = let a = s .back 1 (omega arith) in none-of-three (a .0) (a .1) (a .2)
+
+other-set : Says (Row.other (brimful (claim 6 2 ∷ [])) (brimful (claimIn 7 6 2 ∷ [])))
+unfolding table
+other-set s = let a = s .there 0 (omega arith) in alone (a .0) (a .1) (a .2)
+  where
+    alone : (c : ℕ) → c < 1 → brimful (claimIn 7 6 2 ∷ []) .claim c ≡ claim 6 2 → ⊥
+    alone zero h e = eqb-false 7 0 refl (ap (λ (x : Claim). x .set) e)
+    alone (suc c) h e = absurd (omega (arith, h))
 
 -- ---- starts, steps, walks and endings that are none
 
@@ -370,6 +411,9 @@ cases = (refl, (refl, (refl, (refl, (refl, (refl, (refl, (refl, (refl, (refl, (r
 pub set-cases : All Says setRows
 unfolding computed table
 set-cases = (refl, (refl, (refl, (safe-joint, (unsafe-joint, (unsafe-first, (sums-joint, tt)))))))
+
+pub same-cases : All Says sameRows
+same-cases = (same-any, (lacks-there, (lacks-back, (other-set, tt))))
 
 pub safe-cases : All Says safeRows
 safe-cases = (safe-brim, (unsafe-claim, (unsafe-bound, (unsafe-row, (unsafe-opening, tt)))))

@@ -15,6 +15,7 @@ use Rattle.model.specs.Memory.{standsFor, Starts, Follows, Walks, Ends, 
 use Rattle.model.specs.Memory as M
 use Rattle.model.specs.declared.Claim.{Claim}
 use Rattle.model.specs.Rules.{Table, Broken, Verdict, held, at, verdict, check5, FirstBroken}
+use Rattle.model.specs.Same.{SameClaims}
 use Rattle.model.specs.Safe.{setSum, Safe}
 
 -- an array of listed nodes
@@ -233,6 +234,8 @@ pub data Row : Type 0 where
   noEnd : Array → ℕ → Walked → Row
   notTold : Array → ℕ → Memory → Next → Row
   notFirst : Array → Table → Broken → Row
+  same : Table → Table → Row
+  other : Table → Table → Row
 
 -- what a row says
 abbrev pub Says : Row → Type 0
@@ -252,6 +255,8 @@ Says (noWalk a n m e) = Walks a (λ i. false) n (standsFor a m) (standsFor a e) 
 Says (noEnd a k w) = Ends a (λ i. false) k w (w .ending) → ⊥
 Says (notTold a k m x) = Tells a (λ i. false) k m x → ⊥
 Says (notFirst a t b) = FirstBroken a t b → ⊥
+Says (same t u) = SameClaims t u
+Says (other t u) = SameClaims t u → ⊥
 
 abbrev pub rows : List Row
 rows =
@@ -301,6 +306,17 @@ setRows =
     -- So are those of a set of one claim, also the first of the table.
     ∷ unsafe A (brimful (claimIn 7 6 1 ∷ [])) (threeOfA (opened 1))
     ∷ sums A (joint 2) 1 (threeOfA (opened 1)) 3
+    ∷ []
+
+-- claims as a set
+abbrev pub sameRows : List Row
+sameRows =
+    -- In any order and with any repeats.
+    same (brimful (claim 6 2 ∷ claimIn 7 3 1 ∷ claim 6 2 ∷ [])) (brimful (claimIn 7 3 1 ∷ claim 6 2 ∷ []))
+    -- Not where one is lacking on either side, or has another set.
+    ∷ other (brimful (claim 6 2 ∷ claimIn 7 3 1 ∷ [])) (brimful (claim 6 2 ∷ []))
+    ∷ other (brimful (claim 6 2 ∷ [])) (brimful (claim 6 2 ∷ claimIn 7 3 1 ∷ []))
+    ∷ other (brimful (claim 6 2 ∷ [])) (brimful (claimIn 7 6 2 ∷ []))
     ∷ []
 
 -- safe, and its neighbours that are not
