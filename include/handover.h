@@ -11,8 +11,8 @@
  *   - The stack has 512 KiB to spare (docs/PERFORMANCE.md says what was measured).
  * With length 0 the pointer may be NULL; nothing is read through it.
  *
- * Refusals are numbered as in the scope paper and the requests that follow it: 1 to 12 the array, 13 to 21 and 30 the table, 22 the choice
- * bytes, 23 the lent lists, 24 to 29 the step. Each has a place, 0 where none is named. handover(3) lists them.
+ * Refusals are numbered as in the scope paper and the requests that follow it: 1 to 12 the array, 13 to 21, 30 and 31 the table, 22 the
+ * choice bytes, 23 the lent lists, 24 to 29 the step. Each has a place, 0 where none is named. handover(3) lists them.
  */
 #ifndef HANDOVER_H
 #define HANDOVER_H
@@ -32,8 +32,8 @@ extern "C" {
  *
  * 0 means held: in every configuration that the array can reach, no name holds a channel that the table does not allow, no balance is
  * exceeded and no agent runs more often than claimed, nor the agents of a set together. Else the low 8 bits are the number of the first
- * broken rule (1 to 5), or 100 plus the number of the first refusal (1 to 21, 30), and the place's figures follow: the first times 2^8,
- * the second times 2^24, the third times 2^40. A figure that the rule or refusal does not have is 0.
+ * broken rule (1 to 5), or 100 plus the number of the first refusal (1 to 21, 30, 31), and the place's figures follow: the first times
+ * 2^8, the second times 2^24, the third times 2^40. A figure that the rule or refusal does not have is 0.
  */
 uint64_t handover_check(const uint8_t *array, size_t array_len, const uint8_t *table, size_t table_len);
 

@@ -1,5 +1,6 @@
 //! The designs of the checker: array and table. Each has weight 1 for every agent in K balances of bound 2,
-//! 256 claims where K isn't 0, and is held, but for `broken`; so every live pair is looked at.
+//! 256 claims where K isn't 0 (fewer where agents are too few for one set), and is held, but for `broken`; so every live
+//! pair is looked at.
 
 use crate::files::{array_file, chain, record, table_file, Agent, Balance, Claim, Record, IN, NEW, OUT, PAR};
 use outside::order;
@@ -33,8 +34,7 @@ const ALONE: Sets = |_| 0;
 
 fn files(records: &[Record], rows: &[[u64; 4]], balances: &[Balance], set: Sets) -> Files {
     let array = array_file(records, rows.len());
-    let claims = claims(records, balances.len(), set);
-    let table = table_file(&array, rows, balances, claims);
+    let table = table_file(&array, rows, balances, claims(records, balances.len(), set));
     Files { array, table, nodes: records.len(), names: rows.len(), balances: balances.len() }
 }
 
@@ -42,12 +42,13 @@ fn files(records: &[Record], rows: &[[u64; 4]], balances: &[Balance], set: Sets)
 /// stands once, so that a set has no more claims than there are agents.
 fn claims(records: &[Record], balances: usize, set: Sets) -> Vec<Claim> {
     let agents: Vec<usize> = (0..records.len()).filter(|i| records[*i].is_agent()).collect();
+    let count = if balances == 0 { 0 } else { 256 };
     let claim = |c: usize| {
         let set = set(c);
         let again = if set == 0 { c / agents.len() } else { 0 };
         [agents[c % agents.len()] as u16, u16::MAX - again as u16, (c % balances) as u16, set]
     };
-    let mut claims: Vec<Claim> = (0..if balances == 0 { 0 } else { 256 }).map(claim).collect();
+    let mut claims: Vec<Claim> = (0..count).map(claim).collect();
     order::put(&mut claims);
     claims
 }

@@ -74,7 +74,7 @@ fn checks() {
     }
     head("Checks by sets (pairs, 256 claims)", &columns, "µs");
     check("claims alone", &designs::sets(64, |_| 0), 0);
-    check("one set (60 claims, one for each agent)", &designs::sets(64, |_| 1), 0);
+    check("one set (60 claims)", &designs::sets(64, |_| 1), 0);
     check("256 sets", &designs::sets(64, |c| c as u16 + 1), 0);
 }
 

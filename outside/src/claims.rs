@@ -116,11 +116,11 @@ pub fn nudge(random: &mut Random, array: &Array, balances: &[Balance], claims: &
     let lessened = match random.below(6) {
         0 => vec![c],
         1 | 2 => sets::members(claims, c),
-        _ => Vec::new(),
+        _ => {
+            add_lighter(random, array, balances, claims, c);
+            Vec::new()
+        }
     };
-    if lessened.is_empty() {
-        add_lighter(random, array, balances, claims, c);
-    }
     for d in lessened {
         claims[d][MOST] = claims[d][MOST].wrapping_sub(1);
     }

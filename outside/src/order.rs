@@ -85,3 +85,46 @@ fn count_refused(tally: &mut Tally, place: usize, claims: &[Claim]) {
     tally.other("31 with a later claim out of order too", misplaced(claims).nth(1).is_some().into());
     tally.other("31 where claims rise by agent before set", rise_by_agent(claims).into());
 }
+
+#[cfg(test)]
+mod tests {
+    use super::*;
+
+    /// Agent, most, balance and set of claims that rise.
+    const RISING: [Claim; 10] = [
+        [9, 65_535, 7, 0],
+        [10, 0, 3, 0],
+        [10, 255, 3, 0],
+        [10, 256, 0, 0],
+        [10, 256, 1, 0],
+        [257, 0, 0, 0],
+        [4, 1, 1, 1],
+        [255, 1, 1, 255],
+        [3, 1, 1, 256],
+        [256, 1, 1, 256],
+    ];
+
+    fn places(claims: &[Claim]) -> Vec<usize> {
+        misplaced(claims).collect()
+    }
+
+    #[test]
+    fn neighbours_are_compared() {
+        assert_eq!(places(&RISING), []);
+        for c in 1..RISING.len() {
+            let mut claims = RISING;
+            claims.swap(c - 1, c);
+            assert_eq!(places(&claims), [c]);
+            claims[c] = claims[c - 1];
+            assert_eq!(places(&claims)[0], c);
+        }
+    }
+
+    #[test]
+    fn order_is_one() {
+        let mut claims = [RISING, RISING].concat();
+        claims.reverse();
+        put(&mut claims);
+        assert_eq!(claims, RISING);
+    }
+}

@@ -140,19 +140,21 @@ unsafe fn check_claims(array: &Array, table: &Table) -> Result<(), u64> {
     Ok(())
 }
 
-/// Refusals 30 and 31. As long as claims rise, those of a set lie side by side, and neighbours are compared alone.
+/// Refusals 30 and 31. Claims that rise have a set's claims side by side, so that neighbours are compared alone; only
+/// where that fails is the place looked for.
 unsafe fn check_order(table: &Table) -> Result<(), u64> {
+    let mut fits = true;
     for c in 1..table.claims {
         let (before, rank) = (table.rank(c - 1), table.rank(c));
-        if rank <= before {
-            return Err(check_sets(table).err().unwrap_or(refusal(31, c)));
-        }
-        let together = rank >> 48 != 0 && rank >> 48 == before >> 48;
-        if together && rank as u32 != before as u32 {
-            return Err(refusal(30, c));
-        }
+        let differ = rank ^ before;
+        fits &= (before < rank) & ((rank >> 48 == 0) | (differ >> 48 != 0) | (differ as u32 == 0));
     }
-    Ok(())
+    if fits {
+        return Ok(());
+    }
+    check_sets(table)?;
+    let place = (1..table.claims).find(|c| table.rank(*c) <= table.rank(c - 1));
+    place.map_or(Ok(()), |c| Err(refusal(31, c)))
 }
 
 /// Marks a slot without a claim.

@@ -1,15 +1,18 @@
 -- The marked cases over bytes, and the other entries' rows, by computation.
 use Prim.Native.Nat.{ℕ, zero, suc, _≤_, _<_}
 use native.Mathlib.Omega.{arith}
-use mathlib.Core.Path.{_≡_, refl, ap, _∙_}
+use mathlib.Core.Path.{_≡_, refl, sym, ap, _∙_}
 use mathlib.Core.Logic.{_≢_, inl, inr, ⊎-elim}
-use mathlib.Core.Bool.{true, false, true≢false}
+use mathlib.Core.Bool.{Bool, true, false, cond, not, true≢false}
 use mathlib.Core.List.{List, [], _∷_, map}
-use lib.Dec.{ltb}
-use borrow.Author.Tests.{ltb-true}
+use lib.Dec.{eqb, ltb}
+use lib.ListN.{length}
+use borrow.Author.Tests.{eqb-true, eqb-false, ltb-true}
 use Rattle.laws.specs.Search as F
 use Rattle.laws.specs.Lists as L
 use Rattle.laws.specs.Lists.{All}
+use Rattle.laws.specs.Search.{every}
+use Rattle.laws.proofs.Search.{every-true}
 use Rattle.laws.proofs.Lists.{All-map, every-All}
 use Rattle.wire.specs.Numbers as N
 use Rattle.model.specs.Tree as T
@@ -20,14 +23,16 @@ use Rattle.model.specs.Numbers as I
 use Rattle.model.specs.Memory as M
 use Rattle.model.specs.Rules as U
 use Rattle.model.specs.Safe as Z
-use Rattle.model.specs.Same.{Among, SameClaims}
+use Rattle.model.specs.Tree.{nodeAt, isAgent}
+use Rattle.model.specs.Same.{Alike, Among, SameClaims}
+use Rattle.model.proofs.Tree.{agent-inside}
 use Rattle.records.specs.Record as R
 use Rattle.fields.specs.Fields as D
 use Rattle.layout.specs.Table as Y
 use Rattle.arrays.specs.File.{remarkOf, readArray}
 use Rattle.records.specs.declared.Trailer.{Trailer}
 use Rattle.layout.specs.declared.Sizes.{Sizes}
-use Rattle.handover.specs.Front.{judged, tableIn, arrayRead, tableRead}
+use Rattle.handover.specs.Front.{judged, arrayIn, tableIn, arrayRead, tableRead}
 use Rattle.engine.specs.declared.Walk.{Walk}
 use Rattle.handover.specs.declared.WalkAnswer.{WalkAnswer}
 use Rattle.handover.specs.declared.WalkAnswer.the-variants.{Walked, Refused}
@@ -59,7 +64,7 @@ cases-hold = refl
 abbrev meets : Attempt
 meets = record { receiver = 1; sender = 0; choices = λ i. false }
 
--- a table with a repeat, and the one without it: its bytes, and that the claims are the same
+-- a table with a repeat, and the one without it: its bytes, and that rows and balances and claims are the same
 abbrev once : List ℕ
 once = setsOfA 1 (claimBytes 6 1 ∷ [])
 
@@ -83,6 +88,35 @@ repeated = record { there = there; back = back }
     back zero h = (0, omega arith, refl)
     back (suc c) h = absurd (omega (arith, h))
 
+-- bit o of row v is the same in both, and so is weight i
+abbrev sameBits : ℕ → ℕ → Bool
+sameBits v o = let b = tableIn (pis 3 nodesA) twice .row v o in let c = tableIn (pis 3 nodesA) once .row v o in cond b c (not c)
+
+as-bits : (b c : Bool) → cond b c (not c) ≡ true → b ≡ c
+as-bits true c e = sym e
+as-bits false true e = e
+as-bits false false e = refl
+
+as-many : Alike (arrayIn (pis 3 nodesA)) (tableIn (pis 3 nodesA) twice) (tableIn (pis 3 nodesA) once)
+unfolding computed
+as-many = record {
+  rows = λ v o h l. as-bits _ _ (every-true 256 (sameBits v) (every-true 3 (λ w. every 256 (sameBits w)) refl v h) o l);
+  many = refl;
+  bounds = bounds;
+  weights = weights;
+}
+  where
+    bounds : (k : ℕ) → k < 1 → (tableIn (pis 3 nodesA) twice .balance k) .bound ≡ (tableIn (pis 3 nodesA) once .balance k) .bound
+    bounds zero h = refl
+    bounds (suc k) h = absurd (omega (arith, h))
+
+    weights : (k i : ℕ) → k < 1 → isAgent (nodeAt (arrayIn (pis 3 nodesA)) i) ≡ true
+        → (tableIn (pis 3 nodesA) twice .balance k) .weight i ≡ (tableIn (pis 3 nodesA) once .balance k) .weight i
+    weights zero i h a =
+        let l = agent-inside (arrayIn (pis 3 nodesA)) i a in
+        eqb-true _ _ (every-true 8 (λ j. eqb ((tableIn (pis 3 nodesA) twice .balance 0) .weight j) ((tableIn (pis 3 nodesA) once .balance 0) .weight j)) refl i l)
+    weights (suc k) i h a = absurd (omega (arith, h))
+
 pub unkept : Unkept
 unfolding computed
 unkept = record {
@@ -90,6 +124,7 @@ unkept = record {
   atStart = λ b. let z : 1 ≤ 0 = b (λ i. false) [] 0 (omega arith) in absurd (omega (arith, z));
   afterStep = λ b. let z : 1 ≤ 0 = b (λ i. false) (meets ∷ []) 1 (omega arith) in absurd (omega (arith, z));
   order = λ o. let z : _≡_ {A = ℕ} 2 1 = o once once-bytes refl repeated .many in absurd (omega (arith, z));
+  file = λ o. let z : length twice ≡ length once = ap length (o once once-bytes refl as-many repeated) in eqb-false (length twice) (length once) refl z;
   bytes = λ b. let z : _≡_ {A = ℕ} 0 1 = b .bytes 0 (omega arith) 7 (omega arith) in absurd (omega (arith, z));
 }
 

@@ -8,6 +8,7 @@ use mathlib.Core.Bool.{true, false, true≢false}
 use mathlib.Core.List.{List, [], _∷_}
 use lib.ListN.{getD}
 use Rattle.laws.specs.Search.{Found, clear, hit}
+use Rattle.laws.specs.Lists.{All}
 use Rattle.laws.proofs.Search.{clear-hit, andThen-split, andThen-join, clear-andThen, hit-andThen}
 use Rattle.laws.proofs.Lists.{All-at}
 use Rattle.model.specs.Formed as F
@@ -36,14 +37,15 @@ use Rattle.claims.proofs.Laws.{claims-named, sets-agree, claims-rise}
 use Rattle.tables.specs.declared.TableAnswer.{TableAnswer}
 use Rattle.tables.specs.Read as T
 use Rattle.tables.specs.Read.{tableRefusal, filesRefusal, readTable}
-use Rattle.tables.proofs.Laws.{passed-table}
+use Rattle.tables.proofs.Laws.{Passed, passed, passed-table}
+use Rattle.tables.proofs.OneFile as W
 use Rattle.rules.specs.declared.Ruling.{Ruling}
 use Rattle.rules.specs.declared.Ruling.the-variants as R
 use Rattle.rules.specs.Ruling.{ruled}
 use Rattle.handover.specs.declared.Verdict.{Verdict}
 use Rattle.handover.specs.declared.Verdict.the-variants.{Held, Refused}
 use Rattle.handover.specs.Front.{Outcome, held, rule, says, IsHeld, arrayIn, sizesIn, tableIn, afterRules, judged, Demand3, Judges}
-use Rattle.handover.specs.Front.{saysArray, saysTable, arrayRead, tableRead, OneOrder, ArrayPromise, TablePromise, Untouched}
+use Rattle.handover.specs.Front.{saysArray, saysTable, arrayRead, tableRead, OneOrder, OneFile, ArrayPromise, TablePromise, Untouched}
 use Rattle.handover.specs.Bodies.{verdictOf}
 use Rattle.handover.specs.Refusals.{Reply, done, refused, unlessRefused, ArrayNumber, TableNumber}
 use Rattle.handover.proofs.Refusals.{Small, read-array, array-small, files-small}
@@ -77,12 +79,19 @@ was-read : {A : Type 0} (x : Found F.Refusal) (a b : A) → unlessRefused x a �
 was-read clear a b e = refl
 was-read (hit r) a b e = let z : true ≡ false = cc in absurd (true≢false z)
 
+small : (u : List ℕ) → All (λ b. b < 256) u → (i : ℕ) → getD u i 0 < 256
+small u all i = All-at (λ b. b < 256) u i 0 (omega arith) all
+
 one-order : (f s : List ℕ) → ((i : ℕ) → getD s i 0 < 256) → filesRefusal f s ≡ clear → OneOrder f s
 one-order f s bytes e u all d same =
     let rise : (w : List ℕ) → filesRefusal f w ≡ clear → Rising (tableIn f w) = λ w q. claims-rise (tableIn f w) (read-table f w q .order) in
     let o = O.one-order (tableIn f s) (tableIn f u) (rise s e) (rise u d) same in
-    let small : (i : ℕ) → getD u i 0 < 256 = λ i. All-at (λ b. b < 256) u i 0 (omega arith) all in
-    record { many = o .0; bytes = λ c h i l. claim-bytes s u (claimAt (sizesIn f s) c) (claimAt (sizesIn f u) c) bytes small (o .1 c h) i l }
+    record { many = o .0; bytes = λ c h i l. claim-bytes s u (claimAt (sizesIn f s) c) (claimAt (sizesIn f u) c) bytes (small u all) (o .1 c h) i l }
+
+one-file : (f s : List ℕ) → ((i : ℕ) → getD s i 0 < 256) → filesRefusal f s ≡ clear → OneFile f s
+one-file f s bytes e u all d alike same =
+    let was : (w : List ℕ) → filesRefusal f w ≡ clear → Passed f (trailerOf f) w = λ w q. passed f (trailerOf f) w (andThen-split (arrayRefusal f) _ q .1) in
+    W.one-file f (trailerOf f) s u bytes (small u all) (was s e) (was u d) alike same
 
 pub table-promise : (f s : List ℕ) (x : TableAnswer) → ((i : ℕ) → getD s i 0 < 256) → x ≡ readTable f s → TablePromise f s x
 unfolding readTable tableRead
@@ -91,6 +100,7 @@ table-promise f s x bytes e =
     record {
       answers = a;
       order = λ z q. one-order f s bytes (was-read (filesRefusal f s) _ z (sym a ∙ q));
+      file = λ z q. one-file f s bytes (was-read (filesRefusal f s) _ z (sym a ∙ q));
       listed = λ n p q. reply-listed TableNumber (filesRefusal f s) _ (files-small f s) n p (sym a ∙ q);
     }
 

@@ -16,7 +16,7 @@ use Rattle.lent.specs.declared.Counts.{Counts}
 use Rattle.engine.specs.declared.Turn.{Turn}
 use Rattle.engine.specs.declared.Walk.{Walk}
 use Rattle.handover.specs.Refusals.{done, refused, ArrayNumber, TableNumber, StartNumber, StepNumber, WalkNumber}
-use Rattle.handover.specs.Front.{Outcome, held, rule, SameBytes, OneOrder, Demand3, SetsBounded}
+use Rattle.handover.specs.Front.{Outcome, held, rule, SameBytes, OneOrder, OneFile, Demand3, SetsBounded}
 use Rattle.handover.specs.Engine as E
 use Rattle.handover.specs.Engine.{Told, turned, Left, left, startOf, stepOf, strideOf, WalkPromise}
 use Rattle.handover.specs.declared.WalkAnswer.{WalkAnswer}
@@ -168,16 +168,17 @@ cases =
     ∷ case (pis 3 nodesA) (setsOfA 0 (claimBytes 5 1 ∷ claimBytesIn 256 0 5 1 ∷ claimBytesIn 256 0 6 1 ∷ [])) (rule 5 (1 ∷ []))
     ∷ []
 
--- What `holds`, `bounds` and `order` promise is not true of every table, and the first two not of the start alone: of A, agent 5 runs at the
--- start, and agent 6 after its step
+-- What `holds`, `bounds`, `order` and `file` promise is not true of every table, and the first two not of the start alone: of A, agent 5 runs at
+-- the start, and agent 6 after its step
 pub record Unkept : Type 0 where
   pub holds : Demand3 (pis 3 nodesA) (tableBytesA 2 2 1 1 0) → ⊥
   -- agents 5 and 6 in a set of most 0
   pub atStart : SetsBounded (pis 3 nodesA) (setsOfA 1 (claimBytesIn 1 0 5 0 ∷ claimBytesIn 1 0 6 0 ∷ [])) → ⊥
   -- agent 6 alone in a set of most 0, the second claim
   pub afterStep : SetsBounded (pis 3 nodesA) (setsOfA 1 (claimBytes 5 1 ∷ claimBytesIn 1 0 6 0 ∷ [])) → ⊥
-  -- a table with a repeat and the one without it have the same claims
+  -- a table with a repeat and the one without it have the same claims, rows and balances
   pub order : OneOrder (pis 3 nodesA) (setsOfA 1 (claimBytes 6 1 ∷ claimBytes 6 1 ∷ [])) → ⊥
+  pub file : OneFile (pis 3 nodesA) (setsOfA 1 (claimBytes 6 1 ∷ claimBytes 6 1 ∷ [])) → ⊥
   -- claims that differ in their last byte
   pub bytes : SameBytes (pis 3 nodesA) (setsOfA 1 (claimBytesIn 1 0 6 1 ∷ [])) (setsOfA 1 (claimBytesIn 257 0 6 1 ∷ [])) → ⊥
 

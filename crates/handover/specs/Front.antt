@@ -72,9 +72,16 @@ pub record SameBytes (f s u : List ℕ) : Type 0 where
 abbrev pub OneOrder : List ℕ → List ℕ → Type 0
 OneOrder f s = (u : List ℕ) → All (λ b. b < 256) u → filesRefusal f u ≡ clear → SameClaims (tableIn f s) (tableIn f u) → SameBytes f s u
 
+-- and one that has the same rows and balances too is the same file
+abbrev pub OneFile : List ℕ → List ℕ → Type 0
+OneFile f s =
+    (u : List ℕ) → All (λ b. b < 256) u → filesRefusal f u ≡ clear → Alike (arrayIn f) (tableIn f s) (tableIn f u)
+    → SameClaims (tableIn f s) (tableIn f u) → s ≡ u
+
 pub record TablePromise (f s : List ℕ) (x : TableAnswer) : Type 0 where
   pub answers : saysTable x ≡ tableRead f s
   pub order : (z : Sizes) → saysTable x ≡ done z → OneOrder f s
+  pub file : (z : Sizes) → saysTable x ≡ done z → OneFile f s
   pub listed : (n p : ℕ) → saysTable x ≡ refused n p → TableNumber n
 
 -- ---- the checker: an answer in 01's numbers

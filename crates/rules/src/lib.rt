@@ -130,7 +130,8 @@ fn fifth_rule(table: &[u8], z: Sizes, loads: &[u32], bounds: &[u32]) -> Ruling
     let mut c: usize = 0;
     while c < z.claims {
         if !claim_holds(layout::read_claim(table, z, c), loads, bounds) {
-            return Ruling::Rule5(claims::first_of_set(table, z, c));
+            let set_first = claims::first_of_set(table, z, c);
+            return Ruling::Rule5(set_first);
         }
         c += 1;
     }

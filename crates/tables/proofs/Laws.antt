@@ -1,5 +1,5 @@
 -- What the tests of a table's trailer say, and that a table that was read is one.
-use Prim.Native.Nat.{ℕ, _+_, _≤_}
+use Prim.Native.Nat.{ℕ, _+_, _-_, _/_, _≤_}
 use mathlib.Core.Path.{_≡_, refl, sym, ap, ap₂, _∙_}
 use mathlib.Core.Bool.{true, _&&_}
 use mathlib.Core.List.{List}
@@ -8,14 +8,17 @@ use lib.ListN.{length}
 use borrow.Author.Tests.{leb-true, eqb-true}
 use Rattle.laws.specs.Search.{Found, clear}
 use Rattle.laws.proofs.Search.{and-split, test-clear, andThen-split, clear-andThen, hit-andThen}
+use Rattle.wire.specs.Numbers.{u32At, wordSum}
 use Rattle.model.specs.Formed as F
 use Rattle.records.specs.declared.Trailer.{Trailer}
 use Rattle.records.specs.declared.Refusal.{Refusal}
+use Rattle.records.specs.Record.{arrayOf}
 use Rattle.arrays.specs.declared.ArrayAnswer.the-variants as A
 use Rattle.arrays.specs.File.{trailerOf, arrayRefusal, readArray}
 use Rattle.arrays.proofs.Laws.{read-passes, read-refuses}
 use Rattle.layout.specs.declared.Sizes.{Sizes}
-use Rattle.layout.specs.Table.{claimAt, sizesOf, tableLengthFits, tableCountsFit, startsFit, partsFit, IsTable}
+use Rattle.layout.specs.Table.{claimAt, sizesOf, tableOf, tableLengthFits, tableCountsFit, startsFit, partsFit, IsTable}
+use Rattle.layout.specs.Table.{refusal14, refusal19, refusal20, refusal21, refusal30, refusal31}
 use Rattle.tables.specs.declared.TableAnswer.the-variants.{Refused}
 use Rattle.tables.specs.Read.{tableRefusal, sizesAnswer, readTable}
 
@@ -32,8 +35,21 @@ parts-fill s z e = eqb-true _ _ (and-split (startsFit s z) (eqb (claimAt z (z .c
 -- ---- a table that was read
 
 -- refusals 13 to 21, 30 and 31 found nothing
-pub passed-table : (f : List ℕ) (t : Trailer) (s : List ℕ) → tableRefusal f t s ≡ clear → IsTable f t s (sizesOf t s)
-passed-table f t s e =
+pub record Passed (f : List ℕ) (t : Trailer) (s : List ℕ) : Type 0 where
+  pub long : 28 ≤ length s
+  pub letters : refusal14 (sizesOf t s) ≡ clear
+  pub counts : tableCountsFit (sizesOf t s) ≡ true
+  pub parts : partsFit s (sizesOf t s) ≡ true
+  pub sum : u32At s (length s - 8) ≡ wordSum s ((length s - 8) / 4)
+  pub named : u32At s (length s - 12) ≡ t .sum
+  pub rows : refusal19 (arrayOf f t) s (sizesOf t s) ≡ clear
+  pub weights : refusal20 (arrayOf f t) s (sizesOf t s) ≡ clear
+  pub claims : refusal21 (arrayOf f t) (tableOf s (sizesOf t s)) ≡ clear
+  pub sets : refusal30 (tableOf s (sizesOf t s)) ≡ clear
+  pub order : refusal31 (tableOf s (sizesOf t s)) ≡ clear
+
+pub passed : (f : List ℕ) (t : Trailer) (s : List ℕ) → tableRefusal f t s ≡ clear → Passed f t s
+passed f t s e =
     let s₁ = andThen-split _ _ e in
     let s₂ = andThen-split _ _ (s₁ .1) in
     let s₃ = andThen-split _ _ (s₂ .1) in
@@ -44,20 +60,37 @@ passed-table f t s e =
     let s₈ = andThen-split _ _ (s₇ .1) in
     let s₉ = andThen-split _ _ (s₈ .1) in
     let s₁₀ = andThen-split _ _ (s₉ .1) in
-    let counts = counts-fit (sizesOf t s) (test-clear _ _ (s₃ .0)) in
+    record {
+      long = length-fits s (test-clear _ _ (s₁ .0));
+      letters = s₂ .0;
+      counts = test-clear _ _ (s₃ .0);
+      parts = test-clear _ _ (s₄ .0);
+      sum = eqb-true _ _ (test-clear _ _ (s₅ .0));
+      named = eqb-true _ _ (test-clear _ _ (s₆ .0));
+      rows = s₇ .0;
+      weights = s₈ .0;
+      claims = s₉ .0;
+      sets = s₁₀ .0;
+      order = s₁₀ .1;
+    }
+
+pub passed-table : (f : List ℕ) (t : Trailer) (s : List ℕ) → tableRefusal f t s ≡ clear → IsTable f t s (sizesOf t s)
+passed-table f t s e =
+    let p = passed f t s e in
+    let counts = counts-fit (sizesOf t s) (p .counts) in
     record {
       laid = record {
         nodes = refl;
         names = refl;
         fewBalances = counts .0;
         fewClaims = counts .1;
-        fills = parts-fill s (sizesOf t s) (test-clear _ _ (s₄ .0));
+        fills = parts-fill s (sizesOf t s) (p .parts);
       };
-      rows = s₇ .0;
-      weights = s₈ .0;
-      claims = s₉ .0;
-      sets = s₁₀ .0;
-      order = s₁₀ .1;
+      rows = p .rows;
+      weights = p .weights;
+      claims = p .claims;
+      sets = p .sets;
+      order = p .order;
     }
 
 -- ---- the answer, by the array's and the table's

@@ -1,6 +1,6 @@
 -- What is written is read back: a number where it was put, and of a file that was sealed the sum that its words have.
 use Prim.Native.Nat.{ℕ, zero, suc, _+_, _-_, _*_, _/_, _%_, _≤_, _<_}
-use native.Mathlib.Nat.{add-zero, div-div-eq-div-mul}
+use native.Mathlib.Nat.{add-zero, le-trans, div-div-eq-div-mul}
 use native.Mathlib.Omega.{arith}
 use mathlib.Core.Path.{_≡_, refl, sym, ap, ap₂, _∙_}
 use mathlib.Core.List.{List, _++_}
@@ -20,6 +20,18 @@ pub two-same : (s u : List ℕ) (p q : ℕ) → getD s p 0 < 256 → getD u q 0 
     → (getD s p 0 ≡ getD u q 0) × (getD s (p + 1) 0 ≡ getD u (q + 1) 0)
 unfolding u16At
 two-same s u p q h k e = (omega arith, omega arith)
+
+pub four-same : (s u : List ℕ) (p q : ℕ) → ((i : ℕ) → getD s i 0 < 256) → ((i : ℕ) → getD u i 0 < 256) → u32At s p ≡ u32At u q
+    → (getD s p 0 ≡ getD u q 0) × (getD s (p + 1) 0 ≡ getD u (q + 1) 0) × (getD s (p + 2) 0 ≡ getD u (q + 2) 0) × (getD s (p + 3) 0 ≡ getD u (q + 3) 0)
+unfolding u32At
+four-same s u p q bs bu e =
+    let s₀ = bs p in
+    let s₁ = bs (p + 1) in
+    let s₂ = bs (p + 2) in
+    let u₀ = bu q in
+    let u₁ = bu (q + 1) in
+    let u₂ = bu (q + 2) in
+    (omega arith, omega arith, omega arith, omega arith)
 
 pub number-back : (s : List ℕ) (at n : ℕ) → at + 1 < length s → n < 65536 → u16At (put at (le16 n) s) at ≡ n
 number-back s at n h small =
@@ -47,14 +59,17 @@ word-back s at n h small =
     let e : getD (put at (le32 n) s) at 0 ≡ n % 256 = ap (λ (k : ℕ). getD (put at (le32 n) s) k 0) (sym (add-zero at)) ∙ f in
     rw (e, g₁, g₂, g₃) (digits n small)
 
--- the sum of the first words does not depend on what follows
-pub sum-front : (s t : List ℕ) (n : ℕ) → 4 * n ≤ length s → wordSum (s ++ t) n ≡ wordSum s n
+-- the sum of the first words is that of their bytes
+pub sum-bytes : (s t : List ℕ) (n : ℕ) → ((k : ℕ) → k < 4 * n → getD s k 0 ≡ getD t k 0) → wordSum s n ≡ wordSum t n
 unfolding wordSum u32At
-sum-front s t zero h = refl
-sum-front s t (suc n) h =
-    let byte : (k : ℕ) → k < length s → getD (s ++ t) k 0 ≡ getD s k 0 = λ k l. List·getD-append s t 0 k l in
-    ap₂ (λ (x y : ℕ). (x + y) % 4294967296) (sum-front s t n (omega arith))
+sum-bytes s t zero byte = refl
+sum-bytes s t (suc n) byte =
+    ap₂ (λ (x y : ℕ). (x + y) % 4294967296) (sum-bytes s t n (λ k l. byte k (omega arith)))
     (rw (byte (4 * n) (omega arith), byte (4 * n + 1) (omega arith), byte (4 * n + 2) (omega arith), byte (4 * n + 3) (omega arith)))
+
+-- and does not depend on what follows
+pub sum-front : (s t : List ℕ) (n : ℕ) → 4 * n ≤ length s → wordSum (s ++ t) n ≡ wordSum s n
+sum-front s t n h = sum-bytes (s ++ t) s n (λ k l. List·getD-append s t 0 k (le-trans l h))
 
 sum-small : (s : List ℕ) (n : ℕ) → wordSum s n < 4294967296
 unfolding wordSum

@@ -1,6 +1,6 @@
 //! Writes the corpus that the fuzzer starts from: the examples, the stored pairs of files, the stored arrays, random arrays
-//! with accepted, nearly accepted and broken tables, and tables with sets, by what is answered. Each comes with some
-//! calls. Argument: the folder.
+//! with accepted, nearly accepted and broken tables, tables with sets, by what is answered, and tables of 256 claims, in
+//! order and not. Each comes with some calls. Argument: the folder.
 
 use outside::files::TableFile;
 use outside::random::Random;
@@ -16,6 +16,7 @@ const SORT_CLAIMS: u8 = 4;
 const MOST_BYTES: usize = 8000;
 const RANDOM: u64 = 300;
 const OF_EACH_SORT: usize = 25;
+const CROWDED: u64 = 15;
 
 type Pair = (String, Vec<u8>, Vec<u8>);
 
@@ -102,6 +103,15 @@ fn random_sets(round: u64) -> Option<Pair> {
     sets::has_wide(&table.claims).then_some((format!("sets-{round}"), array, bytes))
 }
 
+/// 256 claims, where agents have numbers above 255; every other table has claims out of order.
+fn crowded(round: u64) -> Pair {
+    let mut random = Random::of(3, 0, round);
+    let array = arrays::line(&mut random, 270).bytes();
+    let table = tables::crowded(&mut random, &parts::read(&array));
+    let faults: &[u8] = if round.is_multiple_of(2) { &[] } else { &[31] };
+    (format!("crowded-{round}"), array, damage::table(&mut random, &table, faults))
+}
+
 /// Held; broken by a set whose first claim would hold alone; refused by 30; by 31.
 fn has_sort(sort: usize, pair: &Pair) -> bool {
     match plain::check(&pair.1, &pair.2) {
@@ -129,7 +139,7 @@ fn main() -> io::Result<()> {
     let arrays =
         files_in(&root.join("crates/inspect/data"))?.into_iter().map(|(name, array)| (name, array, Vec::new()));
     let files = examples(&root)?.into_iter().chain(stored(&root)?).chain(arrays);
-    let pairs = files.chain((0..RANDOM).map(random)).chain(of_each_sort());
+    let pairs = files.chain((0..RANDOM).map(random)).chain(of_each_sort()).chain((0..CROWDED).map(crowded));
     for (name, array, table) in pairs.filter(is_small) {
         fs::write(Path::new(&folder).join(name), seed(&array, &table))?;
     }
