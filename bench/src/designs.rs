@@ -1,6 +1,6 @@
 //! The designs of the checker: array and table. Each has weight 1 for every agent in K balances of bound 2,
-//! 256 claims where K isn't 0 (fewer where agents are too few for one set), and is held, but for `broken`; so every live
-//! pair is looked at.
+//! 256 claims where K isn't 0 (fewer where agents are too few for one set), and is held, but for `broken`; so every
+//! live pair is looked at.
 
 use crate::files::{array_file, chain, record, table_file, Agent, Balance, Claim, Record, IN, NEW, OUT, PAR};
 use outside::order;

@@ -32,7 +32,8 @@ impl Base<'_> {
     }
 }
 
-/// As many claims as wanted, or none where none follows: sets, and groups of set 0. Fewer where these bring nothing new.
+/// As many claims as wanted, or none where none follows: sets, and groups of set 0. Fewer where groups bring nothing
+/// new.
 pub fn following(random: &mut Random, balances: &[Balance], wanted: usize) -> Vec<Claim> {
     let bases = balances.iter().enumerate().map(Base::of).filter(|base| !base.agents.is_empty());
     let bases: Vec<Base> = bases.collect();

@@ -217,7 +217,8 @@ fn table_trailer(random: &mut Random, file: &mut Vec<u8>, faults: &[u8]) {
     }
 }
 
-/// One fault of refusals 19 to 21 or 30, if the table has the part. Bits are set at random places, also where they may be.
+/// One fault of refusals 19 to 21 or 30, if the table has the part. Bits are set at random places, also where they may
+/// be.
 fn part_fault(random: &mut Random, table: &TableFile, file: &mut [u8], number: u8) {
     let balances = ROW * table.rows.len();
     let nodes = table.balances.first().map_or(0, |balance| balance.weights.len());

@@ -1,6 +1,6 @@
 //! Writes the corpus that the fuzzer starts from: the examples, the stored pairs of files, the stored arrays, random arrays
-//! with accepted, nearly accepted and broken tables, tables with sets, by what is answered, and tables of 256 claims, in
-//! order and not. Each comes with some calls. Argument: the folder.
+//! with accepted, nearly accepted and broken tables, tables with sets, by what is answered, and tables of 256 claims,
+//! in order and not. Each comes with some calls. Argument: the folder.
 
 use outside::files::TableFile;
 use outside::random::Random;
