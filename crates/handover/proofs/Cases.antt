@@ -89,6 +89,9 @@ repeated = record { there = there; back = back }
     back (suc c) h = absurd (omega (arith, h))
 
 -- bit o of row v is the same in both, and so is weight i
+abbrev sameWeight : ℕ → Bool
+sameWeight i = eqb ((tableIn (pis 3 nodesA) twice .balance 0) .weight i) ((tableIn (pis 3 nodesA) once .balance 0) .weight i)
+
 abbrev sameBits : ℕ → ℕ → Bool
 sameBits v o = let b = tableIn (pis 3 nodesA) twice .row v o in let c = tableIn (pis 3 nodesA) once .row v o in cond b c (not c)
 
@@ -114,7 +117,7 @@ as-many = record {
         → (tableIn (pis 3 nodesA) twice .balance k) .weight i ≡ (tableIn (pis 3 nodesA) once .balance k) .weight i
     weights zero i h a =
         let l = agent-inside (arrayIn (pis 3 nodesA)) i a in
-        eqb-true _ _ (every-true 8 (λ j. eqb ((tableIn (pis 3 nodesA) twice .balance 0) .weight j) ((tableIn (pis 3 nodesA) once .balance 0) .weight j)) refl i l)
+        eqb-true _ _ (every-true 8 sameWeight refl i l)
     weights (suc k) i h a = absurd (omega (arith, h))
 
 pub unkept : Unkept

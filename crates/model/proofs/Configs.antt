@@ -1,10 +1,9 @@
 -- What a list of attempts leaves is a configuration of the array: its threads are agents, and what their free names hold was opened by the
 -- array's names.
 use Prim.Native.Nat.{ℕ, _<_}
-use mathlib.Core.Path.{_≡_, refl, sym, ap, _∙_, subst}
+use mathlib.Core.Path.{_≡_, refl, sym, _∙_, subst}
 use mathlib.Core.Bool.{true}
 use mathlib.Core.List.{List, [], _∷_}
-use lib.ListN.{getD}
 use Rattle.laws.specs.Lists.{All}
 use Rattle.laws.proofs.Lists.{All-map}
 use Rattle.model.specs.Tree.{Array, isNew}

@@ -2,8 +2,8 @@
 use Prim.Native.Nat.{ℕ, _≤_, _<_}
 use native.Mathlib.Nat.{le-trans, le-of-lt}
 use native.Mathlib.Omega.{arith}
-use mathlib.Core.Path.{_≡_, refl, sym, ap, _∙_, subst}
-use mathlib.Core.Logic.{_⊎_, inl, inr, _≢_, ⊎-elim}
+use mathlib.Core.Path.{_≡_, refl, sym, ap, _∙_}
+use mathlib.Core.Logic.{_⊎_, inl, inr, _≢_}
 use mathlib.Core.Bool.{Bool, true, false, not, _&&_, false≢true, true≢false}
 use mathlib.Core.List.{List}
 use mathlib.Core.Option.{some}
@@ -12,16 +12,16 @@ use lib.ListN.{length, getD, List·getD-eq-default}
 use borrow.Author.Tests.{eqb-true, eqb-false, eq-eqb, ne-eqb, leb-true, le-leb, ltb-true, ltb-false, not-true}
 use Rattle.laws.specs.Search.{every}
 use Rattle.laws.specs.Lists.{All, has}
-use Rattle.laws.proofs.Search.{decided, and-split, and-join, or-split, every-true, true-every}
-use Rattle.laws.proofs.Lists.{All-has, every-All, All-every}
-use Rattle.model.specs.Tree.{Array, Sort, out, inp, resource, Node, nodeAt, isAgent, Proc, Agent, procAt, isFree, freeBelow, isNew}
+use Rattle.laws.proofs.Search.{decided, and-split, and-join, every-true, true-every}
+use Rattle.laws.proofs.Lists.{every-All, All-every}
+use Rattle.model.specs.Tree.{Array, Node, nodeAt, isAgent, Proc, Agent, procAt, isFree, isNew}
 use Rattle.model.specs.Nodes.{agentOf}
 use Rattle.model.specs.Formed.{WellFormed}
 use Rattle.model.specs.Calculus.{Thread, Config}
 use Rattle.model.specs.Numbers.{Entry, noEntry, sameEntry, Listed, nobody}
 use Rattle.model.specs.Memory.{opening, newIn, markerIn, words, Memory, configOf, entriesOf, threadRoom, markerRoom, isResource, isOut}
 use Rattle.model.specs.Memory.{wordFormed, threadFormed, entryFormed, unlike, formed}
-use Rattle.model.proofs.Tree.{agent-inside, Wf, wf-procAt}
+use Rattle.model.proofs.Tree.{agent-inside, wf-procAt}
 use Rattle.model.proofs.Nodes.{agent-at, acts-agent, free-below}
 use Rattle.model.proofs.Markers.{entry-eq, entry-same}
 use Rattle.model.proofs.Memory.{length-threads, length-entries}

@@ -3,14 +3,14 @@
 use Prim.Native.Nat.{ℕ, zero, suc, _≤_, _<_}
 use native.Mathlib.Nat.{eq-or-lt-of-le, not-suc-le-zero, le-of-suc-le-suc, le-refl}
 use native.Mathlib.Omega.{arith}
-use mathlib.Core.Path.{_≡_, refl, sym, ap, _∙_, subst}
+use mathlib.Core.Path.{_≡_, sym, ap, _∙_, subst}
 use mathlib.Core.Logic.{_⊎_, inl, inr, ⊎-elim}
 use mathlib.Core.Bool.{Bool, true, false, _&&_}
 use lib.Dec.{eqb, leb, ltb}
 use borrow.Author.Tests.{eqb-true, eq-eqb, ltb-true, lt-ltb, leb-true, leb-false}
 use Rattle.laws.proofs.Search.{decided, and-split, and-join, or-split, or-left, or-right}
 use Rattle.model.specs.declared.Claim.{Claim}
-use Rattle.model.specs.Rules.{Table, rises, comesAfter, Rising}
+use Rattle.model.specs.Rules.{Table, rises, comesAfter, Each, Rising}
 use Rattle.model.specs.Same.{Among, SameClaims}
 
 -- ---- one number after another
@@ -91,7 +91,7 @@ module _ (t : Table) (rise : Rising t) where
 -- ---- one order
 
 -- claims that rise, and of which all below n are another table's: claim n is that table's claim n, or comes after it
-ahead : (t u : Table) → Rising t → Rising u → (n : ℕ) → n < t .claims → n < u .claims → ((c : ℕ) → c < n → t .claim c ≡ u .claim c) → Among u (t .claim n)
+ahead : (t u : Table) → Rising t → Rising u → (n : ℕ) → n < t .claims → n < u .claims → Each n (λ c. t .claim c ≡ u .claim c) → Among u (t .claim n)
     → (t .claim n ≡ u .claim n) ⊎ (comesAfter (t .claim n) (u .claim n) ≡ true)
 ahead t u rt ru n h k below (j, l, e) = go (decided (leb j n))
   where
@@ -102,7 +102,7 @@ ahead t u rt ru n h k below (j, l, e) = go (decided (leb j n))
     go (inr q) = inr (subst (λ x. comesAfter x (u .claim n) ≡ true) e (later-after u ru n j (leb-false j n q) l))
 
 module _ (t u : Table) (rt : Rising t) (ru : Rising u) (same : SameClaims t u) where
-  next : (n : ℕ) → n < t .claims → n < u .claims → ((c : ℕ) → c < n → t .claim c ≡ u .claim c) → t .claim n ≡ u .claim n
+  next : (n : ℕ) → n < t .claims → n < u .claims → Each n (λ c. t .claim c ≡ u .claim c) → t .claim n ≡ u .claim n
   next n h k below = go (ahead t u rt ru n h k below (same .there n h)) (ahead u t ru rt n k h (λ c l. sym (below c l)) (same .back n k))
     where
       go : (t .claim n ≡ u .claim n) ⊎ (comesAfter (t .claim n) (u .claim n) ≡ true) → (u .claim n ≡ t .claim n) ⊎ (comesAfter (u .claim n) (t .claim n) ≡ true)
@@ -111,14 +111,14 @@ module _ (t u : Table) (rt : Rising t) (ru : Rising u) (same : SameClaims t u) w
       go (inr p) (inl e) = sym e
       go (inr p) (inr q) = absurd (comes-strict (t .claim n) (comes-trans (t .claim n) (u .claim n) (t .claim n) q p))
 
-  same-below : (n : ℕ) → n ≤ t .claims → n ≤ u .claims → (c : ℕ) → c < n → t .claim c ≡ u .claim c
+  same-below : (n : ℕ) → n ≤ t .claims → n ≤ u .claims → Each n (λ c. t .claim c ≡ u .claim c)
   same-below zero h k c l = absurd (not-suc-le-zero l)
   same-below (suc n) h k c l =
       let rest = same-below n (omega arith) (omega arith) in
       ⊎-elim (λ (q : c ≡ n). subst (λ x. t .claim x ≡ u .claim x) (sym q) (next n h k rest)) (λ (m : c < n). rest c m) (eq-or-lt-of-le (le-of-suc-le-suc l))
 
 -- where all claims of a table are another's, and those that both have are the same, it has no more
-no-more : (t u : Table) → Rising t → ((c : ℕ) → c < u .claims → t .claim c ≡ u .claim c) → ((c : ℕ) → c < t .claims → Among u (t .claim c)) → t .claims ≤ u .claims
+no-more : (t u : Table) → Rising t → Each (u .claims) (λ c. t .claim c ≡ u .claim c) → Each (t .claims) (λ c. Among u (t .claim c)) → t .claims ≤ u .claims
 no-more t u rise below there = go (decided (leb (t .claims) (u .claims)))
   where
     go : (leb (t .claims) (u .claims) ≡ true) ⊎ (leb (t .claims) (u .claims) ≡ false) → t .claims ≤ u .claims
@@ -129,14 +129,14 @@ no-more t u rise below there = go (decided (leb (t .claims) (u .claims)))
         absurd (no-repeat t rise (a .0) (u .claims) (a .1) h (below (a .0) (a .1) ∙ a .2))
 
 -- the same claims in the same order
-pub one-order : (t u : Table) → Rising t → Rising u → SameClaims t u → (t .claims ≡ u .claims) × ((c : ℕ) → c < t .claims → t .claim c ≡ u .claim c)
+pub one-order : (t u : Table) → Rising t → Rising u → SameClaims t u → (t .claims ≡ u .claims) × Each (t .claims) (λ c. t .claim c ≡ u .claim c)
 one-order t u rt ru same = go (decided (leb (t .claims) (u .claims)))
   where
-    below : (n : ℕ) → n ≤ t .claims → n ≤ u .claims → (c : ℕ) → c < n → t .claim c ≡ u .claim c
+    below : (n : ℕ) → n ≤ t .claims → n ≤ u .claims → Each n (λ c. t .claim c ≡ u .claim c)
     below = same-below t u rt ru same
 
     go : (leb (t .claims) (u .claims) ≡ true) ⊎ (leb (t .claims) (u .claims) ≡ false)
-        → (t .claims ≡ u .claims) × ((c : ℕ) → c < t .claims → t .claim c ≡ u .claim c)
+        → (t .claims ≡ u .claims) × Each (t .claims) (λ c. t .claim c ≡ u .claim c)
     go (inl q) =
         let h = leb-true (t .claims) (u .claims) q in
         let e = below (t .claims) (le-refl _) h in

@@ -3,9 +3,9 @@
 use Prim.Native.Nat.{ℕ, zero, suc, _+_, _-_, _*_, _/_, _%_, _≤_, _<_}
 use native.Mathlib.Nat.{add-zero, add-assoc, zero-mul, suc-mul, le-refl}
 use native.Mathlib.Omega.{arith}
-use mathlib.Core.Path.{_≡_, refl, sym, ap, ap₂, _∙_, subst}
+use mathlib.Core.Path.{_≡_, sym, ap, ap₂, _∙_, subst}
 use mathlib.Core.Logic.{_⊎_, inl, inr, ⊎-elim}
-use mathlib.Core.Bool.{Bool, true, false, false≢true}
+use mathlib.Core.Bool.{true, false, false≢true}
 use mathlib.Core.List.{List}
 use lib.Dec.{eqb, ltb}
 use lib.ListN.{length, getD}
@@ -17,7 +17,7 @@ use Rattle.laws.proofs.Search.{decided, and-split, or-split, test-clear, first-
 use Rattle.laws.proofs.Bits.{bit-ext}
 use Rattle.wire.specs.Numbers.{u16At, u32At, wordSum}
 use Rattle.wire.proofs.Written.{two-same, four-same, sum-bytes}
-use Rattle.model.specs.Tree.{Array, nodeAt, isAgent}
+use Rattle.model.specs.Tree.{nodeAt, isAgent}
 use Rattle.model.specs.Same.{Alike, SameClaims}
 use Rattle.model.proofs.Order.{one-order}
 use Rattle.records.specs.declared.Trailer.{Trailer}
