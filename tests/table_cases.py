@@ -245,12 +245,14 @@ CASES = [
     ("A", "A-order-most-falls", of_two((6, 2, 0), (6, 1, 1)), "refused 31 1"),
     ("A", "A-order-balance", of_two((6, 1, 0), (6, 1, 1)), "held 8 3 2 2"),
     ("A", "A-order-balance-falls", of_two((6, 1, 1), (6, 1, 0)), "refused 31 1"),
-    # and not by a byte of theirs
+    # and not by a byte of theirs, nor with a sign
     ("A", "A-order-set-255-256", of_sets((6, 1, 255), (6, 1, 256)), "held 8 3 1 2"),
     ("A", "A-order-set-256-255", of_sets((6, 1, 256), (6, 1, 255)), "refused 31 1"),
     ("A", "A-order-set-65535-1", of_sets((6, 1, 65535), (6, 1, 1)), "refused 31 1"),
     ("A", "A-order-most-511-768", of_sets((6, 511, 0), (6, 768, 0)), "held 8 3 1 2"),
     ("A", "A-order-most-768-511", of_sets((6, 768, 0), (6, 511, 0)), "refused 31 1"),
+    ("A", "A-order-most-1-32768", of_sets((6, 1, 0), (6, 32768, 0)), "held 8 3 1 2"),
+    ("A", "A-order-most-32768-1", of_sets((6, 32768, 0), (6, 1, 0)), "refused 31 1"),
     # repeats: alone, in a set, and in a set that other claims part
     ("A", "A-repeat", of_sets((6, 1, 0), (6, 1, 0)), "refused 31 1"),
     ("A", "A-set-named-twice", of_sets((6, 1, 1), (6, 1, 1)), "refused 31 1"),

@@ -97,7 +97,7 @@ fn values(claims: &[Claim], balances: usize, number: usize) -> Vec<u16> {
     match number {
         SET => NUMBERS.into_iter().filter(|set| claims.iter().all(|claim| claim[SET] != *set)).chain([0]).collect(),
         AGENT => claims.iter().map(|claim| claim[AGENT]).collect(),
-        MOST => vec![0, 1, 255, 256, 257, 511, 512, 65_535],
+        MOST => vec![0, 1, 255, 256, 257, 511, 512, 32_767, 32_768, 65_535],
         _ => (0..balances as u16).collect(),
     }
 }

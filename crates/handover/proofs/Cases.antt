@@ -6,7 +6,7 @@ use mathlib.Core.Logic.{_≢_, inl, inr, ⊎-elim}
 use mathlib.Core.Bool.{Bool, true, false, cond, not, true≢false}
 use mathlib.Core.List.{List, [], _∷_, map}
 use lib.Dec.{eqb, ltb}
-use lib.ListN.{length}
+use lib.ListN.{length, getD}
 use borrow.Author.Tests.{eqb-true, eqb-false, ltb-true}
 use Rattle.laws.specs.Search as F
 use Rattle.laws.specs.Lists as L
@@ -22,9 +22,11 @@ use Rattle.model.specs.Calculus.{Attempt}
 use Rattle.model.specs.Numbers as I
 use Rattle.model.specs.Memory as M
 use Rattle.model.specs.Rules as U
+use Rattle.model.specs.Rules.{Table}
 use Rattle.model.specs.Safe as Z
 use Rattle.model.specs.Tree.{nodeAt, isAgent}
 use Rattle.model.specs.Same.{Alike, Among, SameClaims}
+use Rattle.model.proofs.Alike.{alike-back, claims-back}
 use Rattle.model.proofs.Tree.{agent-inside}
 use Rattle.records.specs.Record as R
 use Rattle.fields.specs.Fields as D
@@ -32,12 +34,17 @@ use Rattle.layout.specs.Table as Y
 use Rattle.arrays.specs.File.{remarkOf, readArray}
 use Rattle.records.specs.declared.Trailer.{Trailer}
 use Rattle.layout.specs.declared.Sizes.{Sizes}
-use Rattle.handover.specs.Front.{judged, arrayIn, tableIn, arrayRead, tableRead}
+use Rattle.handover.specs.Front.{judged, Judges, arrayIn, sizesIn, tableIn, arrayRead, tableRead}
+use Rattle.handover.proofs.Laws.{read-table, ruled-judges, untouched}
+use Rattle.handover.proofs.Refusals.{read-array}
 use Rattle.engine.specs.declared.Walk.{Walk}
+use Rattle.rules.specs.declared.Ruling.the-variants as K
+use Rattle.handover.specs.Bodies.{verdictOf}
 use Rattle.handover.specs.declared.WalkAnswer.{WalkAnswer}
 use Rattle.handover.specs.declared.WalkAnswer.the-variants.{Walked, Refused}
 use Rattle.handover.specs.Engine.{startOf, stepOf, walkOf, nextLeft, strideOf, Left, saysWalk}
-use Rattle.handover.specs.Files.{pis, nodesA, claimBytes, setsOfA, Case, cases, Unkept, remark, remarkedB, tablesRead, arraysRead, Letters}
+use Rattle.handover.specs.Files.{pis, nodesA, claimBytes, setsOfA, inOrderA, turnedA, Case, cases, Unkept, Kept, remark, remarkedB}
+use Rattle.handover.specs.Files.{tablesRead, arraysRead, Letters}
 use Rattle.handover.specs.Files.{Answered, calls, toLeft, Ended, Answers, endings, Unlisted}
 use Rattle.handover.specs.Refusals.{done, StartNumber, WalkNumber}
 
@@ -64,61 +71,99 @@ cases-hold = refl
 abbrev meets : Attempt
 meets = record { receiver = 1; sender = 0; choices = λ i. false }
 
--- a table with a repeat, and the one without it: its bytes, and that rows and balances and claims are the same
+-- ---- the same claims in files of array A
+
+-- the array file, and what is read in it and in a table beside it
+abbrev fileA : List ℕ
+fileA = pis 3 nodesA
+
+abbrev read : List ℕ → Table
+read s = tableIn fileA s
+
+-- the bytes of a table are bytes
+are-bytes : (s : List ℕ) → every (length s) (λ i. ltb (getD s i 0) 256) ≡ true → All (λ b. b < 256) s
+are-bytes s e = All-map (λ b h. ltb-true b 256 h) s (every-All (λ b. ltb b 256) 0 s e)
+
+-- a claim twice, and once
 abbrev once : List ℕ
 once = setsOfA 1 (claimBytes 6 1 ∷ [])
 
 abbrev twice : List ℕ
 twice = setsOfA 1 (claimBytes 6 1 ∷ claimBytes 6 1 ∷ [])
 
-once-bytes : All (λ b. b < 256) once
-unfolding computed
-once-bytes = All-map (λ b e. ltb-true b 256 e) once (every-All (λ b. ltb b 256) 0 once refl)
-
-repeated : SameClaims (tableIn (pis 3 nodesA) twice) (tableIn (pis 3 nodesA) once)
+repeated : SameClaims (read twice) (read once)
 unfolding computed
 repeated = record { there = there; back = back }
   where
-    there : (c : ℕ) → c < 2 → Among (tableIn (pis 3 nodesA) once) (tableIn (pis 3 nodesA) twice .claim c)
+    there : (c : ℕ) → c < 2 → Among (read once) (read twice .claim c)
     there zero h = (0, omega arith, refl)
     there (suc zero) h = (0, omega arith, refl)
     there (suc (suc c)) h = absurd (omega (arith, h))
 
-    back : (c : ℕ) → c < 1 → Among (tableIn (pis 3 nodesA) twice) (tableIn (pis 3 nodesA) once .claim c)
+    back : (c : ℕ) → c < 1 → Among (read twice) (read once .claim c)
     back zero h = (0, omega arith, refl)
     back (suc c) h = absurd (omega (arith, h))
 
--- bit o of row v is the same in both, and so is weight i
-abbrev sameWeight : ℕ → Bool
-sameWeight i = eqb ((tableIn (pis 3 nodesA) twice .balance 0) .weight i) ((tableIn (pis 3 nodesA) once .balance 0) .weight i)
+-- two claims, and the same the other way round, whatever the weight of node 6
+turned : (w : ℕ) → SameClaims (read (turnedA w)) (read inOrderA)
+unfolding computed
+turned w = record { there = there; back = back }
+  where
+    there : (c : ℕ) → c < 2 → Among (read inOrderA) (read (turnedA w) .claim c)
+    there zero h = (1, omega arith, refl)
+    there (suc zero) h = (0, omega arith, refl)
+    there (suc (suc c)) h = absurd (omega (arith, h))
 
-abbrev sameBits : ℕ → ℕ → Bool
-sameBits v o = let b = tableIn (pis 3 nodesA) twice .row v o in let c = tableIn (pis 3 nodesA) once .row v o in cond b c (not c)
+    back : (c : ℕ) → c < 2 → Among (read (turnedA w)) (read inOrderA .claim c)
+    back zero h = (1, omega arith, refl)
+    back (suc zero) h = (0, omega arith, refl)
+    back (suc (suc c)) h = absurd (omega (arith, h))
+
+-- with the same weight rows and balances are the same too: bit o of row v, weight i
+abbrev sameBit : ℕ → ℕ → Bool
+sameBit v o = cond (read (turnedA 1) .row v o) (read inOrderA .row v o) (not (read inOrderA .row v o))
+
+abbrev sameWeight : ℕ → Bool
+sameWeight i = eqb ((read (turnedA 1) .balance 0) .weight i) ((read inOrderA .balance 0) .weight i)
 
 as-bits : (b c : Bool) → cond b c (not c) ≡ true → b ≡ c
 as-bits true c e = sym e
 as-bits false true e = e
 as-bits false false e = refl
 
-as-many : Alike (arrayIn (pis 3 nodesA)) (tableIn (pis 3 nodesA) twice) (tableIn (pis 3 nodesA) once)
+alike : Alike (arrayIn fileA) (read (turnedA 1)) (read inOrderA)
 unfolding computed
-as-many = record {
-  rows = λ v o h l. as-bits _ _ (every-true 256 (sameBits v) (every-true 3 (λ w. every 256 (sameBits w)) refl v h) o l);
+alike = record {
+  rows = λ v o h l. as-bits _ _ (every-true 256 (sameBit v) (every-true 3 (λ w. every 256 (sameBit w)) refl v h) o l);
   many = refl;
   bounds = bounds;
   weights = weights;
 }
   where
-    bounds : (k : ℕ) → k < 1 → (tableIn (pis 3 nodesA) twice .balance k) .bound ≡ (tableIn (pis 3 nodesA) once .balance k) .bound
+    bounds : (k : ℕ) → k < 1 → (read (turnedA 1) .balance k) .bound ≡ (read inOrderA .balance k) .bound
     bounds zero h = refl
     bounds (suc k) h = absurd (omega (arith, h))
 
-    weights : (k i : ℕ) → k < 1 → isAgent (nodeAt (arrayIn (pis 3 nodesA)) i) ≡ true
-        → (tableIn (pis 3 nodesA) twice .balance k) .weight i ≡ (tableIn (pis 3 nodesA) once .balance k) .weight i
-    weights zero i h a =
-        let l = agent-inside (arrayIn (pis 3 nodesA)) i a in
-        eqb-true _ _ (every-true 8 sameWeight refl i l)
+    weights : (k i : ℕ) → k < 1 → isAgent (nodeAt (arrayIn fileA) i) ≡ true → (read (turnedA 1) .balance k) .weight i ≡ (read inOrderA .balance k) .weight i
+    weights zero i h a = eqb-true _ _ (every-true 8 sameWeight refl i (agent-inside (arrayIn fileA) i a))
     weights (suc k) i h a = absurd (omega (arith, h))
+
+-- what is promised of the table in order, which is held
+promised : Judges fileA inOrderA (verdictOf K.Held (sizesIn fileA inOrderA))
+unfolding computed
+promised = ruled-judges fileA inOrderA refl (read-array fileA refl) (read-table fileA inOrderA refl) K.Held refl
+
+pub kept : Kept
+unfolding computed
+kept =
+    let there = untouched fileA inOrderA (turnedA 1) refl refl (alike-back (arrayIn fileA) _ _ alike) (claims-back _ _ (turned 1)) in
+    let back = untouched fileA (turnedA 1) inOrderA refl refl alike (turned 1) in
+    record {
+      refuses = refl;
+      rules = there .0 .0 (promised .exactly refl .0 tt);
+      holds = back .1 .1 (promised .holds tt);
+      bounds = back .2 .1 (promised .bounds tt);
+    }
 
 pub unkept : Unkept
 unfolding computed
@@ -126,9 +171,10 @@ unkept = record {
   holds = λ d. let z : 1 ≤ 0 = d (λ i. false) (meets ∷ []) .claims 0 (omega arith) in absurd (omega (arith, z));
   atStart = λ b. let z : 1 ≤ 0 = b (λ i. false) [] 0 (omega arith) in absurd (omega (arith, z));
   afterStep = λ b. let z : 1 ≤ 0 = b (λ i. false) (meets ∷ []) 1 (omega arith) in absurd (omega (arith, z));
-  order = λ o. let z : _≡_ {A = ℕ} 2 1 = o once once-bytes refl repeated .many in absurd (omega (arith, z));
-  file = λ o. let z : length twice ≡ length once = ap length (o once once-bytes refl as-many repeated) in eqb-false (length twice) (length once) refl z;
-  bytes = λ b. let z : _≡_ {A = ℕ} 0 1 = b .bytes 0 (omega arith) 7 (omega arith) in absurd (omega (arith, z));
+  repeat = λ o. let z : _≡_ {A = ℕ} 2 1 = o once (are-bytes once refl) refl repeated .many in absurd (omega (arith, z));
+  order = λ o. let z : _≡_ {A = ℕ} 6 5 = o inOrderA (are-bytes inOrderA refl) refl (turned 0) .bytes 0 (omega arith) 0 (omega arith) in absurd (omega (arith, z));
+  file = λ o. let z : _≡_ {A = ℕ} 6 5 = ap (λ s. getD s 116 0) (o inOrderA (are-bytes inOrderA refl) refl alike (turned 1)) in absurd (omega (arith, z));
+  bytes = λ b. let z : _≡_ {A = ℕ} 0 1 = b .bytes 1 (omega arith) 7 (omega arith) in absurd (omega (arith, z));
 }
 
 pub remark-holds : remarkOf remarkedB ≡ remark

@@ -1,6 +1,6 @@
 -- From the parts to the whole promise: what the readers and the rules found is the definition's answer; with it come demand 2 and,
 -- where it is held, demand 3.
-use Prim.Native.Nat.{ℕ, _<_}
+use Prim.Native.Nat.{ℕ, _≤_, _<_}
 use native.Mathlib.Omega.{arith}
 use mathlib.Core.Path.{_≡_, refl, sym, ap, _∙_, subst}
 use mathlib.Core.Logic.{_↔_}
@@ -14,14 +14,14 @@ use Rattle.laws.proofs.Lists.{All-at}
 use Rattle.model.specs.Formed as F
 use Rattle.model.specs.Rules as M
 use Rattle.model.specs.Calculus.{Choices, Attempt, calculus, run}
-use Rattle.model.specs.Rules.{inSet, Named, SetsAgree, Rising, FirstBroken, at, verdict}
-use Rattle.model.specs.Safe.{Safe}
+use Rattle.model.specs.Rules.{inSet, Each, Named, SetsAgree, Rising, FirstBroken, at, verdict}
+use Rattle.model.specs.Safe.{setSum, Safe}
 use Rattle.model.proofs.Tree.{agent-inside}
 use Rattle.model.proofs.Verdict.{held-rules, first-broken, first5}
 use Rattle.model.proofs.Sets.{set-claim, first-of-set, count-sums}
 use Rattle.model.proofs.Safety.{demand3}
 use Rattle.model.proofs.Order as O
-use Rattle.model.proofs.Alike.{rules-alike, safe-alike}
+use Rattle.model.proofs.Alike.{rules-alike, sums-alike, safe-alike}
 use Rattle.model.proofs.Configs.{reached}
 use Rattle.records.specs.declared.Refusal.{Refusal}
 use Rattle.records.specs.declared.Trailer.{Trailer}
@@ -31,7 +31,7 @@ use Rattle.arrays.specs.declared.ArrayAnswer.the-variants as A
 use Rattle.arrays.specs.File.{trailerOf, arrayRefusal, trailerAnswer, readArray, IsRead}
 use Rattle.arrays.proofs.Laws.{read-passes, read-refuses, read-is}
 use Rattle.layout.specs.declared.Sizes.{Sizes}
-use Rattle.layout.specs.Table.{claimAt, sizesOf, tableOf, refusal21, IsTable}
+use Rattle.layout.specs.Table.{claimAt, sizesOf, tableOf, IsTable}
 use Rattle.layout.proofs.Laws.{claim-bytes}
 use Rattle.claims.proofs.Laws.{claims-named, sets-agree, claims-rise}
 use Rattle.tables.specs.declared.TableAnswer.{TableAnswer}
@@ -72,7 +72,7 @@ table-says clear z = refl
 table-says (hit r) z = refl
 
 -- a table that was read
-read-table : (f s : List ℕ) → filesRefusal f s ≡ clear → IsTable f (trailerOf f) s (sizesIn f s)
+pub read-table : (f s : List ℕ) → filesRefusal f s ≡ clear → IsTable f (trailerOf f) s (sizesIn f s)
 read-table f s e = passed-table f (trailerOf f) s (andThen-split (arrayRefusal f) _ e .1)
 
 was-read : {A : Type 0} (x : Found F.Refusal) (a b : A) → unlessRefused x a ≡ done b → x ≡ clear
@@ -218,14 +218,17 @@ module _ (f s : List ℕ) where
 
 -- ---- claims as a set
 
--- where the array is read and the claims of a table name its agents and balances (21), the table says what any other does with the same rows and
--- balances and the same claims
-pub untouched : (f s u : List ℕ) → arrayRefusal f ≡ clear → refusal21 (arrayIn f) (tableIn f s) ≡ clear → Untouched f s u
+pub untouched : (f s u : List ℕ) → Untouched f s u
 untouched f s u read claims e same =
     let a = arrayIn f in
     let ok = read-array f read .formed in
     let safe : (ch : Choices) (us : List Attempt) → Safe a (tableIn f s) (run calculus a ch us) ↔ Safe a (tableIn f u) (run calculus a ch us) =
-    λ ch us. safe-alike a ok (tableIn f s) (tableIn f u) e same (run calculus a ch us) (reached a ok ch us) in (
+    λ ch us. safe-alike a ok (tableIn f s) (tableIn f u) e same (run calculus a ch us) (reached a ok ch us) in
+    let bounded : List ℕ → Choices → List Attempt → Type 0 =
+    λ w ch us. Each (tableIn f w .claims) (λ q. setSum (a .size) (tableIn f w) q (run calculus a ch us) ≤ tableIn f w .claim q .most) in
+    let sums : (ch : Choices) (us : List Attempt) → bounded s ch us ↔ bounded u ch us =
+    λ ch us. sums-alike a ok (tableIn f s) (tableIn f u) same (a .size) (run calculus a ch us) in (
       rules-alike a ok (tableIn f s) (tableIn f u) e same (claims-named a (tableIn f s) claims),
       (λ h ch us. safe ch us .0 (h ch us), λ h ch us. safe ch us .1 (h ch us)),
+      (λ h ch us. sums ch us .0 (h ch us), λ h ch us. sums ch us .1 (h ch us)),
     )

@@ -4,19 +4,22 @@ use Prim.Native.Nat.{ℕ, _+_, _-_, _/_}
 use mathlib.Core.Path.{_≡_}
 use mathlib.Core.List.{List, [], _∷_, _++_}
 use lib.ListN.{length, replicate}
+use Rattle.laws.specs.Search.{hit}
 use Rattle.wire.specs.Numbers.{wordSum, le16, le32, sealed}
+use Rattle.model.specs.Rules.{Rules}
 use Rattle.records.specs.declared.Trailer.{Trailer}
 use Rattle.arrays.specs.File.{pis1}
 use Rattle.layout.specs.declared.Sizes.{Sizes}
 use Rattle.layout.specs.Table.{pic1}
 use Rattle.model.specs.declared.Ending.the-variants.{Quiet, Spent, Full}
 use Rattle.model.specs.Memory.{Memory, memory}
+use Rattle.tables.specs.Read.{filesRefusal}
 use Rattle.engine.specs.declared.Allowance.{Allowance}
 use Rattle.lent.specs.declared.Counts.{Counts}
 use Rattle.engine.specs.declared.Turn.{Turn}
 use Rattle.engine.specs.declared.Walk.{Walk}
 use Rattle.handover.specs.Refusals.{done, refused, ArrayNumber, TableNumber, StartNumber, StepNumber, WalkNumber}
-use Rattle.handover.specs.Front.{Outcome, held, rule, SameBytes, OneOrder, OneFile, Demand3, SetsBounded}
+use Rattle.handover.specs.Front.{arrayIn, tableIn, Outcome, held, rule, SameBytes, OneOrder, OneFile, Demand3, SetsBounded}
 use Rattle.handover.specs.Engine as E
 use Rattle.handover.specs.Engine.{Told, turned, Left, left, startOf, stepOf, strideOf, WalkPromise}
 use Rattle.handover.specs.declared.WalkAnswer.{WalkAnswer}
@@ -120,6 +123,13 @@ tableBytesA row1 row2 bound w6 most =
 abbrev pub setsOfA : ℕ → List (List ℕ) → List ℕ
 setsOfA w6 claims = pic (sumOf 3 nodesA) (row 1 ∷ row 2 ∷ row 2 ∷ []) 1 (0 ∷ 0 ∷ 0 ∷ 0 ∷ 0 ∷ 1 ∷ w6 ∷ 0 ∷ []) claims
 
+-- A's table with claims of agents 5 and 6 in order, and the other way round with another weight of node 6
+abbrev pub inOrderA : List ℕ
+inOrderA = setsOfA 1 (claimBytes 5 1 ∷ claimBytes 6 1 ∷ [])
+
+abbrev pub turnedA : ℕ → List ℕ
+turnedA w6 = setsOfA w6 (claimBytes 6 1 ∷ claimBytes 5 1 ∷ [])
+
 -- A's table with a second balance, w5 = 300 and w6 = 299, and a claim on it
 abbrev pub twoBalances : List ℕ
 twoBalances =
@@ -176,11 +186,20 @@ pub record Unkept : Type 0 where
   pub atStart : SetsBounded (pis 3 nodesA) (setsOfA 1 (claimBytesIn 1 0 5 0 ∷ claimBytesIn 1 0 6 0 ∷ [])) → ⊥
   -- agent 6 alone in a set of most 0, the second claim
   pub afterStep : SetsBounded (pis 3 nodesA) (setsOfA 1 (claimBytes 5 1 ∷ claimBytesIn 1 0 6 0 ∷ [])) → ⊥
-  -- a table with a repeat and the one without it have the same claims, rows and balances
-  pub order : OneOrder (pis 3 nodesA) (setsOfA 1 (claimBytes 6 1 ∷ claimBytes 6 1 ∷ [])) → ⊥
-  pub file : OneFile (pis 3 nodesA) (setsOfA 1 (claimBytes 6 1 ∷ claimBytes 6 1 ∷ [])) → ⊥
-  -- claims that differ in their last byte
-  pub bytes : SameBytes (pis 3 nodesA) (setsOfA 1 (claimBytesIn 1 0 6 1 ∷ [])) (setsOfA 1 (claimBytesIn 257 0 6 1 ∷ [])) → ⊥
+  -- a table with a claim twice and the one that has it once; one with its claims the other way round, also with another weight
+  pub repeat : OneOrder (pis 3 nodesA) (setsOfA 1 (claimBytes 6 1 ∷ claimBytes 6 1 ∷ [])) → ⊥
+  pub order : OneOrder (pis 3 nodesA) (turnedA 0) → ⊥
+  pub file : OneFile (pis 3 nodesA) (turnedA 1) → ⊥
+  -- claims of which the second differs in its last byte
+  pub bytes : SameBytes (pis 3 nodesA) (setsOfA 1 (claimBytes 6 1 ∷ claimBytesIn 1 0 6 1 ∷ []))
+      (setsOfA 1 (claimBytes 6 1 ∷ claimBytesIn 257 0 6 1 ∷ [])) → ⊥
+
+-- What a table says that 31 alone refuses: A's with its claims the other way round
+pub record Kept : Type 0 where
+  pub refuses : filesRefusal (pis 3 nodesA) (turnedA 1) ≡ hit record { number = 31; place = 1 }
+  pub rules : Rules (arrayIn (pis 3 nodesA)) (tableIn (pis 3 nodesA) (turnedA 1))
+  pub holds : Demand3 (pis 3 nodesA) (turnedA 1)
+  pub bounds : SetsBounded (pis 3 nodesA) (turnedA 1)
 
 -- ---- the readers: files, and what the reader says
 

@@ -19,7 +19,7 @@ use Rattle.arrays.specs.declared.ArrayAnswer.{ArrayAnswer}
 use Rattle.arrays.specs.declared.ArrayAnswer.the-variants as A
 use Rattle.arrays.specs.File.{trailerOf, arrayRefusal}
 use Rattle.layout.specs.declared.Sizes.{Sizes}
-use Rattle.layout.specs.Table.{claimAt, sizesOf, tableOf}
+use Rattle.layout.specs.Table.{claimAt, sizesOf, tableOf, refusal21}
 use Rattle.tables.specs.declared.TableAnswer.{TableAnswer}
 use Rattle.tables.specs.declared.TableAnswer.the-variants as T
 use Rattle.tables.specs.Read.{filesRefusal}
@@ -122,13 +122,15 @@ SetsBounded f s =
     (ch : Choices) (us : List Attempt)
     → Each (tableIn f s .claims) λ q. setSum (arrayIn f .size) (tableIn f s) q (run calculus (arrayIn f) ch us) ≤ tableIn f s .claim q .most
 
--- "What an accepted table says of an array is untouched" (02, request ii): two tables of one array with the same rows and balances whose claims are
--- the same, in any order and with any repeats, obey the rules alike, and demand 3 is the same. A table of before that 31 refuses is one of the two
--- and its claims put in order are in the other; proofs/Laws: untouched.
+-- "What an accepted table says of an array is untouched" (02, request ii): where the array is read and the claims of a table name its agents and
+-- balances (21), any other table with the same rows and balances and the same claims, in any order and with any repeats, obeys the rules alike, and
+-- what is promised of a held one is the same. A table of before that 31 refuses is one of the two, the other has its claims in order
+-- (proofs/Laws: untouched).
 abbrev pub Untouched : List ℕ → List ℕ → List ℕ → Type 0
 Untouched f s u =
-    Alike (arrayIn f) (tableIn f s) (tableIn f u) → SameClaims (tableIn f s) (tableIn f u)
-    → (Rules (arrayIn f) (tableIn f s) ↔ Rules (arrayIn f) (tableIn f u)) × (Demand3 f s ↔ Demand3 f u)
+    arrayRefusal f ≡ clear → refusal21 (arrayIn f) (tableIn f s) ≡ clear → Alike (arrayIn f) (tableIn f s) (tableIn f u)
+    → SameClaims (tableIn f s) (tableIn f u)
+    → (Rules (arrayIn f) (tableIn f s) ↔ Rules (arrayIn f) (tableIn f u)) × (Demand3 f s ↔ Demand3 f u) × (SetsBounded f s ↔ SetsBounded f u)
 
 -- ---- the whole promise of an answer
 

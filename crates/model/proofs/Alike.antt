@@ -5,22 +5,24 @@ use Prim.Native.Nat.{ℕ, suc, _+_, _*_, _≤_, _<_, max}
 use native.Mathlib.Omega.{arith}
 use mathlib.Core.Path.{_≡_, refl, sym, ap, ap₂, _∙_, subst}
 use mathlib.Core.Logic.{_↔_, _⊎_, inl, inr, _≢_}
-use mathlib.Core.Bool.{Bool, true, not, _&&_, _||_}
+use mathlib.Core.Bool.{Bool, true, cond, not, _&&_, _||_}
 use mathlib.Core.List.{List, [], _∷_}
 use mathlib.Core.Option.{Option, none, some}
-use lib.Dec.{leb, ltb}
+use lib.Dec.{eqb, leb, ltb}
 use lib.ListN.{length, getD}
 use Rattle.laws.specs.Search.{clear, test, first, every}
 use Rattle.laws.specs.Lists.{All}
-use Rattle.laws.proofs.Search.{same-test, test-clear, clear-test, andThen-split, andThen-join, first-clear, clear-first, first-same, every-same, any-same}
+use Rattle.laws.proofs.Search.{same-test, test-clear, clear-test, andThen-split, andThen-join, first-clear, clear-first, first-same}
+use Rattle.laws.proofs.Search.{every-same, any-same, sum-same}
 use Rattle.laws.proofs.Lists.{All-at}
 use Rattle.model.specs.Tree.{Array, nodeAt, isAgent, isNew, Sort, Proc, procAt, Agent, asAgent, agentAt, load}
 use Rattle.model.specs.Formed.{WellFormed}
 use Rattle.model.specs.Calculus.{Marker, Cell, Thread, Config}
 use Rattle.model.specs.declared.Claim.{Claim}
-use Rattle.model.specs.Rules.{Table, rowBits, balanceOf, together, inSet, leastWeight, within, shareBit, fitBoth, live, taken, rule5At, Rules, Named}
+use Rattle.model.specs.Rules.{Table, rowBits, balanceOf, together, inSet, leastWeight, within, shareBit, fitBoth, live, taken}
+use Rattle.model.specs.Rules.{rule5At, Each, Rules, Named}
 use Rattle.model.specs.Rules.{Verdict, at, onLive, pairs, check1, check2, arguments3, check3, balances4, check4, check5, verdict}
-use Rattle.model.specs.Safe.{total, weighed, Flows, Safe}
+use Rattle.model.specs.Safe.{total, weighed, count, setSum, Flows, Safe}
 use Rattle.model.specs.Same.{Alike, Among, SameClaims, IsThread, IsConfig}
 use Rattle.model.proofs.Tree.{agent-inside, agent-below, AgentWf, Wf, wf-procAt, agent-tree}
 use Rattle.model.proofs.Verdict.{held-rules}
@@ -104,13 +106,13 @@ module _ (a : Array) (ok : WellFormed a) where
     pairs-alike f g same =
         first-same (a .size) _ _ (λ i h. first-same (a .size) _ _ (λ j k. pair-alike i j (f i j) (g i j) (same i j) (agentAt a i) (agentAt a j) refl refl))
 
-    pub check1-alike : check1 a t ≡ check1 a u
+    check1-alike : check1 a t ≡ check1 a u
     unfolding check1
     check1-alike =
         let few = ok .fewNames in
         first-same (a .names) _ _ (λ o h. ap (λ (b : Bool). test (not (isNew a o) || b) (at 1 (o ∷ []))) (e .rows o o h (omega arith)))
 
-    pub check2-alike : check2 a t ≡ check2 a u
+    check2-alike : check2 a t ≡ check2 a u
     unfolding check2
     check2-alike =
         first-alike (e .many) _ _ (λ k h.
@@ -135,7 +137,7 @@ module _ (a : Array) (ok : WellFormed a) where
 -- ---- claims as a set
 
 -- either way round
-alike-back : (a : Array) (t u : Table) → Alike a t u → Alike a u t
+pub alike-back : (a : Array) (t u : Table) → Alike a t u → Alike a u t
 alike-back a t u e = record {
   rows = λ v o h l. sym (e .rows v o h l);
   many = sym (e .many);
@@ -143,7 +145,7 @@ alike-back a t u e = record {
   weights = λ k i h l. sym (e .weights k i (rw (e .many) h) l);
 }
 
-claims-back : (t u : Table) → SameClaims t u → SameClaims u t
+pub claims-back : (t u : Table) → SameClaims t u → SameClaims u t
 claims-back t u same = record { there = same .back; back = same .there }
 
 -- tables with the same claims in the same order have the same claims
@@ -177,7 +179,7 @@ in-same : (t u : Table) → SameClaims t u → (c d : ℕ) → c < t .claims →
 in-same t u same c d h k e i = same-test _ _ (in-other t u same c d i k e) (in-other u t (claims-back t u same) d c i h (sym e))
 
 -- claims name agents and balances in both tables, or in neither
-pub named-other : (a : Array) (t u : Table) → t .balances ≡ u .balances → SameClaims t u → Named a t → Named a u
+named-other : (a : Array) (t u : Table) → t .balances ≡ u .balances → SameClaims t u → Named a t → Named a u
 named-other a t u many same named d h =
     let s = same .back d h in
     let n = named (s .0) (s .1) in
@@ -282,6 +284,19 @@ module _ (a : Array) (ok : WellFormed a) where
         let n = count-same (in-same t u same (s .0) q (s .1) h (s .2)) c in
         rw (← n, ← ap (λ (x : Claim). x .most) (s .2)) (safe .claims (s .0) (s .1));
   }
+
+  -- the sums of sets are bounded alike, in any configuration
+  sums-other : (t u : Table) → SameClaims t u → (n : ℕ) (c : Config Marker Cell) → Each (t .claims) (λ q. setSum n t q c ≤ t .claim q .most)
+      → Each (u .claims) (λ q. setSum n u q c ≤ u .claim q .most)
+  sums-other t u same n c all q h =
+      let s = same .back q h in
+      let is : setSum n t (s .0) c ≡ setSum n u q c =
+      sum-same n _ _ (λ i l. ap (λ (b : Bool). cond b (count (λ j. eqb j i) c) 0) (in-same t u same (s .0) q (s .1) h (s .2) i)) in
+      rw (← is, ← ap (λ (x : Claim). x .most) (s .2)) (all (s .0) (s .1))
+
+  pub sums-alike : (t u : Table) → SameClaims t u → (n : ℕ) (c : Config Marker Cell)
+      → Each (t .claims) (λ q. setSum n t q c ≤ t .claim q .most) ↔ Each (u .claims) (λ q. setSum n u q c ≤ u .claim q .most)
+  sums-alike t u same n c = (sums-other t u same n c, sums-other u t (claims-back t u same) n c)
 
   pub safe-alike : (t u : Table) → Alike a t u → SameClaims t u → (c : Config Marker Cell) → IsConfig a c → Safe a t c ↔ Safe a u c
   safe-alike t u e same c is = (safe-other t u e same c is, safe-other u t (alike-back a t u e) (claims-back t u same) c is)

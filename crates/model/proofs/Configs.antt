@@ -3,14 +3,14 @@
 use Prim.Native.Nat.{ℕ, _<_}
 use mathlib.Core.Path.{_≡_, refl, sym, _∙_, subst}
 use mathlib.Core.Bool.{true}
-use mathlib.Core.List.{List, [], _∷_}
+use mathlib.Core.List.{List}
 use Rattle.laws.specs.Lists.{All}
 use Rattle.laws.proofs.Lists.{All-map}
 use Rattle.model.specs.Tree.{Array, isNew}
 use Rattle.model.specs.Formed.{WellFormed}
-use Rattle.model.specs.Calculus.{Marker, Cell, holds, calculus, Choices, Thread, Config, Attempt, start, after, attempt, attempts, run}
+use Rattle.model.specs.Calculus.{Marker, Cell, holds, calculus, Choices, Thread, Config, Attempt, stepped, start, attempts, run}
 use Rattle.model.specs.Same.{IsThread, IsConfig}
-use Rattle.model.proofs.Stepped.{attempt-keeps}
+use Rattle.model.proofs.Stepped.{Meet, attempts-keep}
 use Rattle.model.proofs.Nodes.{acts-agent}
 use Rattle.model.proofs.Covers as C
 
@@ -36,19 +36,13 @@ module _ (a : Array) (wf : WellFormed a) where
   started ch = C.start-ok calculus a wf Opened Fine opens tt ch
 
   -- what is sent is held, whatever the parameter
-  stepped-ok : (c : Config Marker Cell) (u : Attempt) → All Ok c → All Ok (after (attempt calculus a c u) c)
-  stepped-ok c u ok =
-      attempt-keeps calculus a c u (All Ok) ok (λ m.
+  stepped-ok : (c : Config Marker Cell) (u : Attempt) (m : Meet calculus a c u) → All Ok c → All Ok (stepped calculus c u (m .p) (m .q))
+  stepped-ok c u m ok =
       C.step-ok calculus a wf Opened Fine opens c ok u m
       (λ n h.
       let f = C.sent-fits calculus a wf Opened Fine opens _ (C.sender-ok calculus a wf Opened Fine opens c ok u m) (m .q) (m .sender) (m .sends) n
       (subst (λ x. n < x) (m .arities) h) in
-      record { opening = f .opening; marker = f .marker; held = f .held; below = f .below }) tt)
-
-  attempted : (c : Config Marker Cell) (us : List Attempt) → All Ok c → All Ok (attempts calculus a c us)
-  unfolding attempts
-  attempted c [] ok = ok
-  attempted c (u ∷ us) ok = attempted (after (attempt calculus a c u) c) us (stepped-ok c u ok)
+      record { opening = f .opening; marker = f .marker; held = f .held; below = f .below }) tt
 
   is-thread : (th : Thread Marker Cell) → Ok th → IsThread a th
   unfolding calculus
@@ -65,4 +59,6 @@ module _ (a : Array) (wf : WellFormed a) where
 
   pub reached : (ch : Choices) (us : List Attempt) → IsConfig a (run calculus a ch us)
   unfolding run
-  reached ch us = All-map is-thread (attempts calculus a (start calculus a ch) us) (attempted (start calculus a ch) us (started ch))
+  reached ch us =
+      All-map is-thread (attempts calculus a (start calculus a ch) us)
+      (attempts-keep calculus a (All Ok) stepped-ok (start calculus a ch) us (started ch))

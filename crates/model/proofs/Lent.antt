@@ -11,7 +11,7 @@ use lib.Dec.{eqb, ltb, leb}
 use lib.ListN.{length, getD, List·getD-eq-default}
 use borrow.Author.Tests.{eqb-true, eqb-false, eq-eqb, ne-eqb, leb-true, le-leb, ltb-true, ltb-false, not-true}
 use Rattle.laws.specs.Search.{every}
-use Rattle.laws.specs.Lists.{All, has}
+use Rattle.laws.specs.Lists.{All}
 use Rattle.laws.proofs.Search.{decided, and-split, and-join, every-true, true-every}
 use Rattle.laws.proofs.Lists.{every-All, All-every}
 use Rattle.model.specs.Tree.{Array, Node, nodeAt, isAgent, Proc, Agent, procAt, isFree, isNew}

@@ -1,5 +1,5 @@
--- The order of claims (02, request ii) is strict, so claims that rise have no repeat; those of one set lie side by side; and which they are
--- fixes the place of each.
+-- The order of claims (02, request ii) is strict, so claims that rise have no repeat, and total, so that any claims can be put in order; those of
+-- one set lie side by side; and which they are fixes the place of each.
 use Prim.Native.Nat.{ℕ, zero, suc, _≤_, _<_}
 use native.Mathlib.Nat.{eq-or-lt-of-le, not-suc-le-zero, le-of-suc-le-suc, le-refl}
 use native.Mathlib.Omega.{arith}
@@ -7,7 +7,7 @@ use mathlib.Core.Path.{_≡_, sym, ap, _∙_, subst}
 use mathlib.Core.Logic.{_⊎_, inl, inr, ⊎-elim}
 use mathlib.Core.Bool.{Bool, true, false, _&&_}
 use lib.Dec.{eqb, leb, ltb}
-use borrow.Author.Tests.{eqb-true, eq-eqb, ltb-true, lt-ltb, leb-true, leb-false}
+use borrow.Author.Tests.{eqb-true, eq-eqb, ltb-true, lt-ltb, ltb-false, leb-true, leb-false}
 use Rattle.laws.proofs.Search.{decided, and-split, and-join, or-split, or-left, or-right}
 use Rattle.model.specs.declared.Claim.{Claim}
 use Rattle.model.specs.Rules.{Table, rises, comesAfter, Each, Rising}
@@ -61,6 +61,40 @@ pub comes-strict : (x : Claim) → comesAfter x x ≡ true → ⊥
 comes-strict x =
     rises-strict (x .set) (byAgent x x) (rises-strict (x .agent) (byMost x x) (rises-strict (x .most) (byBalance x x)
     (λ e. let l = ltb-true (x .balance) (x .balance) e in absurd (omega (arith, l)))))
+
+-- of two numbers that differ one rises, either way round; of equal ones what follows decides
+rises-total : (m n : ℕ) (b c : Bool) {P : Type 0} → (b ≡ true) ⊎ ((c ≡ true) ⊎ P) → (rises m n b ≡ true) ⊎ ((rises n m c ≡ true) ⊎ ((m ≡ n) × P))
+rises-total m n b c {P} next = go (decided (ltb m n)) (decided (ltb n m))
+  where
+    equal : m ≡ n → (rises m n b ≡ true) ⊎ ((rises n m c ≡ true) ⊎ ((m ≡ n) × P))
+    equal e =
+        ⊎-elim (λ h. inl (or-right (ltb m n) (eqb m n && b) (and-join (eq-eqb m n e) h)))
+        (⊎-elim (λ h. inr (inl (or-right (ltb n m) (eqb n m && c) (and-join (eq-eqb n m (sym e)) h)))) (λ p. inr (inr (e, p)))) next
+
+    go : (ltb m n ≡ true) ⊎ (ltb m n ≡ false) → (ltb n m ≡ true) ⊎ (ltb n m ≡ false) → (rises m n b ≡ true) ⊎ ((rises n m c ≡ true) ⊎ ((m ≡ n) × P))
+    go (inl q) r = inl (rises-less m n b (ltb-true m n q))
+    go (inr q) (inl r) = inr (inl (rises-less n m c (ltb-true n m r)))
+    go (inr q) (inr r) = let x = ltb-false m n q in let y = ltb-false n m r in equal (omega (arith, x, y))
+
+-- of two claims that differ in any number one comes after the other
+pub comes-total : (x y : Claim) → (comesAfter y x ≡ true) ⊎ ((comesAfter x y ≡ true) ⊎ (x ≡ y))
+comes-total x y =
+    ⊎-elim inl (λ k. inr (⊎-elim inl (λ p. inr (same (p .0) (p .1 .0) (p .1 .1 .0) (p .1 .1 .1))) k))
+    (rises-total (x .set) (y .set) (byAgent y x) (byAgent x y)
+    (rises-total (x .agent) (y .agent) (byMost y x) (byMost x y)
+    (rises-total (x .most) (y .most) (byBalance y x) (byBalance x y) (last (decided (byBalance y x)) (decided (byBalance x y))))))
+  where
+    same : x .set ≡ y .set → x .agent ≡ y .agent → x .most ≡ y .most → x .balance ≡ y .balance → x ≡ y
+    same s a m b = λ i. record { agent = a i; most = m i; balance = b i; set = s i }
+
+    last : (byBalance y x ≡ true) ⊎ (byBalance y x ≡ false) → (byBalance x y ≡ true) ⊎ (byBalance x y ≡ false)
+        → (byBalance y x ≡ true) ⊎ ((byBalance x y ≡ true) ⊎ (x .balance ≡ y .balance))
+    last (inl q) r = inl q
+    last (inr q) (inl r) = inr (inl r)
+    last (inr q) (inr r) =
+        let m = ltb-false (x .balance) (y .balance) q in
+        let n = ltb-false (y .balance) (x .balance) r in
+        inr (inr (omega (arith, m, n)))
 
 -- ---- claims that rise
 

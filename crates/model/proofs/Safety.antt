@@ -8,7 +8,7 @@ use native.Mathlib.Omega.{arith}
 use mathlib.Core.Path.{_≡_, refl, sym, ap, _∙_}
 use mathlib.Core.Logic.{_≢_}
 use mathlib.Core.Bool.{true, not, false≢true, true≢false}
-use mathlib.Core.List.{List, [], _∷_, _++_}
+use mathlib.Core.List.{List, _++_}
 use lib.Dec.{eqb}
 use lib.ListN.{length, getD, replicate}
 use borrow.Author.Tests.{eqb-true, eq-eqb, ne-eqb}
@@ -18,14 +18,14 @@ use Rattle.laws.proofs.Lists.{All-map}
 use Rattle.model.specs.Tree.{Array, Sort, out, inp, resource, Agent, agentAt, procAt, receives, load, isNew}
 use Rattle.model.specs.Formed.{WellFormed}
 use Rattle.model.specs.Calculus.{Marker, Cell, unheld, holds, sameMarker, sameCell, calculus, Choices, Thread, Config, Attempt}
-use Rattle.model.specs.Calculus.{keep, stays, noThread, markerOf, receiverLeaves, senderLeaves, stepped, start, after, attempt}
+use Rattle.model.specs.Calculus.{keep, stays, noThread, markerOf, receiverLeaves, senderLeaves, stepped, start}
 use Rattle.model.specs.Calculus.{attempts, run}
 use Rattle.model.specs.Rules.{Table, balanceOf, inSet, Live, taken, Rules, ClaimsFit, rowBits, held, verdict}
 use Rattle.model.specs.Safe.{weighed, count, Safe}
 use Rattle.model.proofs.Verdict.{held-rules}
 use Rattle.model.proofs.Sets.{least-below}
 use Rattle.model.proofs.Threads.{total-append, weighed-unfold, count-weighed, keep-one, keep-two, two-le}
-use Rattle.model.proofs.Stepped.{Meet, attempt-keeps}
+use Rattle.model.proofs.Stepped.{Meet, attempts-keep}
 use Rattle.model.proofs.Covers as C
 
 -- threads, cells and configurations of the calculus
@@ -191,16 +191,6 @@ module _ (a : Array) (t : Table) (wf : WellFormed a) (rules : Rules a t) where
           rw (total-append (λ th. w (th .agent)) kept (x ++ y), total-append (λ th. w (th .agent)) x y) (omega arith);
     }
 
-  -- ---- attempts, from any configuration that has the invariant
-
-  pub attempt-inv : (c : Conf) (u : Attempt) → Inv c → Inv (after (attempt calculus a c u) c)
-  attempt-inv c u inv = attempt-keeps calculus a c u Inv inv (λ m. meet-inv c inv u m)
-
-  pub attempts-inv : (c : Conf) (us : List Attempt) → Inv c → Inv (attempts calculus a c us)
-  unfolding attempts
-  attempts-inv c [] inv = inv
-  attempts-inv c (u ∷ us) inv = attempts-inv (after (attempt calculus a c u) c) us (attempt-inv c u inv)
-
   pub inv-safe : ClaimsFit t → (c : Conf) → Inv c → Safe a t c
   unfolding calculus
   inv-safe fit c inv = record {
@@ -219,4 +209,5 @@ pub demand3 : (a : Array) (t : Table) → WellFormed a → ClaimsFit t → verdi
 unfolding run
 demand3 a t wf fit e ch us =
     let rules = held-rules a t .0 e in
-    inv-safe a t wf rules fit (attempts calculus a (start calculus a ch) us) (attempts-inv a t wf rules (start calculus a ch) us (start-inv a t wf rules ch))
+    inv-safe a t wf rules fit (attempts calculus a (start calculus a ch) us)
+    (attempts-keep calculus a (Inv a t wf rules) (λ c u m inv. meet-inv a t wf rules c inv u m) (start calculus a ch) us (start-inv a t wf rules ch))

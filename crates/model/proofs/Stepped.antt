@@ -2,13 +2,15 @@
 use Prim.Native.Nat.{ℕ, _<_}
 use mathlib.Core.Path.{_≡_, refl, sym, subst}
 use mathlib.Core.Bool.{Bool, true, false, _&&_, true≢false}
+use mathlib.Core.List.{List, [], _∷_}
 use mathlib.Core.Option.{Option, none, some}
 use lib.Dec.{ltb}
 use lib.ListN.{length, getD}
 use borrow.Author.Tests.{ltb-true, eqb-true, not-true}
 use Rattle.laws.proofs.Search.{and-split}
 use Rattle.model.specs.Tree.{Array, Agent, agentAt, receives}
-use Rattle.model.specs.Calculus.{Notation, Thread, Config, Attempt, Answer, refused, next, unless, onAgents, after, noThread, cell, stepped, attempt}
+use Rattle.model.specs.Calculus.{Notation, Thread, Config, Attempt, Answer, refused, next, unless, onAgents, after, noThread, cell, stepped}
+use Rattle.model.specs.Calculus.{attempt, attempts}
 
 module _ {X C : Type 0} (N : Notation X C) (a : Array) (c : Config X C) (u : Attempt) where
   abbrev pub receiver : Thread X C
@@ -81,3 +83,12 @@ module _ {X C : Type 0} (N : Notation X C) (a : Array) (c : Config X C) (u : Att
       go : (x : Answer X C) → attempt N a c u ≡ x → P (after x c)
       go (refused n) e = h
       go (next d) e = let s = attempt-next d e in subst P (sym (s .1)) (f (s .0))
+
+-- and one that holds before a list of attempts and that every step keeps holds after it
+pub attempts-keep : {X C : Type 0} (N : Notation X C) (a : Array) (P : Config X C → Type 0)
+    → ((c : Config X C) (u : Attempt) (m : Meet N a c u) → P c → P (stepped N c u (m .p) (m .q)))
+    → (c : Config X C) (us : List Attempt) → P c → P (attempts N a c us)
+unfolding attempts
+attempts-keep N a P keeps c [] h = h
+attempts-keep N a P keeps c (u ∷ us) h =
+    attempts-keep N a P keeps (after (attempt N a c u) c) us (attempt-keeps N a c u P h (λ m. keeps c u m h))

@@ -36,7 +36,6 @@ parts-fill s z e = eqb-true _ _ (and-split (startsFit s z) (eqb (claimAt z (z .c
 
 -- refusals 13 to 21, 30 and 31 found nothing
 pub record Passed (f : List ℕ) (t : Trailer) (s : List ℕ) : Type 0 where
-  pub long : 28 ≤ length s
   pub letters : refusal14 (sizesOf t s) ≡ clear
   pub counts : tableCountsFit (sizesOf t s) ≡ true
   pub parts : partsFit s (sizesOf t s) ≡ true
@@ -61,7 +60,6 @@ passed f t s e =
     let s₉ = andThen-split _ _ (s₈ .1) in
     let s₁₀ = andThen-split _ _ (s₉ .1) in
     record {
-      long = length-fits s (test-clear _ _ (s₁ .0));
       letters = s₂ .0;
       counts = test-clear _ _ (s₃ .0);
       parts = test-clear _ _ (s₄ .0);

@@ -37,13 +37,13 @@ loop-holds : tie.Need-loop-holds Inv-loop μ-loop
 loop-holds c = (omega arith, λ e h. absurd (omega (arith, h)))
 
 read-claim-requires : tie.Need-read-claim-requires Inv-loop μ-loop
-read-claim-requires c κs = (c .before .before .before .before .before .before .pre .lie, c .if1 .taken)
+read-claim-requires c κs = (c .before .before .before .before .before .before .pre .lie, omega arith)
 
 claim-holds-requires : tie.Need-claim-holds-requires Inv-loop μ-loop
-claim-holds-requires c κs = rw (c .read-claim .ensures) (c .before .before .before .before .before .before .before .pre .listed _ (c .before .if1 .taken))
+claim-holds-requires c κs = rw (c .read-claim .ensures) (c .before .before .before .before .before .before .before .pre .listed _ (omega arith))
 
 first-of-set-requires : tie.Need-first-of-set-requires Inv-loop μ-loop
-first-of-set-requires c κs = (begun (turn (c .before)) .pre .lie, c .before .before .before .if1 .taken)
+first-of-set-requires c κs = (begun (turn (c .before)) .pre .lie, omega arith)
 
 returns : tie.Need-returns Inv-loop μ-loop
 returns c =
