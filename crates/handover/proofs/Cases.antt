@@ -6,8 +6,8 @@ use mathlib.Core.Logic.{_≢_, inl, inr, ⊎-elim}
 use mathlib.Core.Bool.{Bool, true, false, cond, not, true≢false}
 use mathlib.Core.List.{List, [], _∷_, map}
 use lib.Dec.{eqb, ltb}
-use lib.ListN.{length, getD}
-use borrow.Author.Tests.{eqb-true, eqb-false, ltb-true}
+use lib.ListN.{getD}
+use borrow.Author.Tests.{eqb-true, ltb-true}
 use Rattle.laws.specs.Search as F
 use Rattle.laws.specs.Lists as L
 use Rattle.laws.specs.Lists.{All}
@@ -25,8 +25,8 @@ use Rattle.model.specs.Rules as U
 use Rattle.model.specs.Rules.{Table}
 use Rattle.model.specs.Safe as Z
 use Rattle.model.specs.Tree.{nodeAt, isAgent}
-use Rattle.model.specs.Same.{Alike, Among, SameClaims}
-use Rattle.model.proofs.Alike.{alike-back, claims-back}
+use Rattle.model.specs.Same.{Alike, SameClaims}
+use Rattle.model.proofs.Alike.{placed, same-by, alike-back, claims-back}
 use Rattle.model.proofs.Tree.{agent-inside}
 use Rattle.records.specs.Record as R
 use Rattle.fields.specs.Fields as D
@@ -43,7 +43,7 @@ use Rattle.handover.specs.Bodies.{verdictOf}
 use Rattle.handover.specs.declared.WalkAnswer.{WalkAnswer}
 use Rattle.handover.specs.declared.WalkAnswer.the-variants.{Walked, Refused}
 use Rattle.handover.specs.Engine.{startOf, stepOf, walkOf, nextLeft, strideOf, Left, saysWalk}
-use Rattle.handover.specs.Files.{pis, nodesA, claimBytes, setsOfA, inOrderA, turnedA, Case, cases, Unkept, Kept, remark, remarkedB}
+use Rattle.handover.specs.Files.{pis, nodesA, inOrderA, turnedA, repeatedA, Case, cases, Unkept, Kept, remark, remarkedB}
 use Rattle.handover.specs.Files.{tablesRead, arraysRead, Letters}
 use Rattle.handover.specs.Files.{Answered, calls, toLeft, Ended, Answers, endings, Unlisted}
 use Rattle.handover.specs.Refusals.{done, StartNumber, WalkNumber}
@@ -80,73 +80,56 @@ fileA = pis 3 nodesA
 abbrev read : List ℕ → Table
 read s = tableIn fileA s
 
--- the bytes of a table are bytes
-are-bytes : (s : List ℕ) → every (length s) (λ i. ltb (getD s i 0) 256) ≡ true → All (λ b. b < 256) s
-are-bytes s e = All-map (λ b h. ltb-true b 256 h) s (every-All (λ b. ltb b 256) 0 s e)
-
--- a claim twice, and once
-abbrev once : List ℕ
-once = setsOfA 1 (claimBytes 6 1 ∷ [])
-
-abbrev twice : List ℕ
-twice = setsOfA 1 (claimBytes 6 1 ∷ claimBytes 6 1 ∷ [])
-
-repeated : SameClaims (read twice) (read once)
+ordered : All (λ b. b < 256) inOrderA
 unfolding computed
-repeated = record { there = there; back = back }
-  where
-    there : (c : ℕ) → c < 2 → Among (read once) (read twice .claim c)
-    there zero h = (0, omega arith, refl)
-    there (suc zero) h = (0, omega arith, refl)
-    there (suc (suc c)) h = absurd (omega (arith, h))
+ordered = All-map (λ b h. ltb-true b 256 h) inOrderA (every-All (λ b. ltb b 256) 0 inOrderA refl)
 
-    back : (c : ℕ) → c < 1 → Among (read twice) (read once .claim c)
-    back zero h = (0, omega arith, refl)
-    back (suc c) h = absurd (omega (arith, h))
-
--- two claims, and the same the other way round, whatever the weight of node 6
+-- the same claims as those of the table in order
 turned : (w : ℕ) → SameClaims (read (turnedA w)) (read inOrderA)
-unfolding computed
-turned w = record { there = there; back = back }
-  where
-    there : (c : ℕ) → c < 2 → Among (read inOrderA) (read (turnedA w) .claim c)
-    there zero h = (1, omega arith, refl)
-    there (suc zero) h = (0, omega arith, refl)
-    there (suc (suc c)) h = absurd (omega (arith, h))
+unfolding computed placed
+turned w = same-by (read (turnedA w)) (read inOrderA) (1 ∷ 0 ∷ []) (1 ∷ 0 ∷ []) refl refl
 
-    back : (c : ℕ) → c < 2 → Among (read (turnedA w)) (read inOrderA .claim c)
-    back zero h = (1, omega arith, refl)
-    back (suc zero) h = (0, omega arith, refl)
-    back (suc (suc c)) h = absurd (omega (arith, h))
+repeated : SameClaims (read repeatedA) (read inOrderA)
+unfolding computed placed
+repeated = same-by (read repeatedA) (read inOrderA) (1 ∷ 0 ∷ 1 ∷ []) (1 ∷ 0 ∷ []) refl refl
 
--- with the same weight rows and balances are the same too: bit o of row v, weight i
-abbrev sameBit : ℕ → ℕ → Bool
-sameBit v o = cond (read (turnedA 1) .row v o) (read inOrderA .row v o) (not (read inOrderA .row v o))
+-- the same rows and balances as those of the table in order: bit o of row v, and weight i
+abbrev sameBit : List ℕ → ℕ → ℕ → Bool
+sameBit s v o = cond (read s .row v o) (read inOrderA .row v o) (not (read inOrderA .row v o))
 
-abbrev sameWeight : ℕ → Bool
-sameWeight i = eqb ((read (turnedA 1) .balance 0) .weight i) ((read inOrderA .balance 0) .weight i)
+abbrev sameWeight : List ℕ → ℕ → Bool
+sameWeight s i = eqb ((read s .balance 0) .weight i) ((read inOrderA .balance 0) .weight i)
 
 as-bits : (b c : Bool) → cond b c (not c) ≡ true → b ≡ c
 as-bits true c e = sym e
 as-bits false true e = e
 as-bits false false e = refl
 
-alike : Alike (arrayIn fileA) (read (turnedA 1)) (read inOrderA)
+alike-by : (s : List ℕ) → every 3 (λ v. every 256 (sameBit s v)) ≡ true → read s .balances ≡ 1 → (read s .balance 0) .bound ≡ 1 → every 8 (sameWeight s) ≡ true
+    → Alike (arrayIn fileA) (read s) (read inOrderA)
 unfolding computed
-alike = record {
-  rows = λ v o h l. as-bits _ _ (every-true 256 (sameBit v) (every-true 3 (λ w. every 256 (sameBit w)) refl v h) o l);
-  many = refl;
-  bounds = bounds;
-  weights = weights;
+alike-by s bits many bound same = record {
+  rows = λ v o h l. as-bits _ _ (every-true 256 (sameBit s v) (every-true 3 (λ w. every 256 (sameBit s w)) bits v h) o l);
+  many = many;
+  bounds = λ k h. bounds k (rw (← many) h);
+  weights = λ k i h a. weights k i (rw (← many) h) a;
 }
   where
-    bounds : (k : ℕ) → k < 1 → (read (turnedA 1) .balance k) .bound ≡ (read inOrderA .balance k) .bound
-    bounds zero h = refl
+    bounds : (k : ℕ) → k < 1 → (read s .balance k) .bound ≡ (read inOrderA .balance k) .bound
+    bounds zero h = bound
     bounds (suc k) h = absurd (omega (arith, h))
 
-    weights : (k i : ℕ) → k < 1 → isAgent (nodeAt (arrayIn fileA) i) ≡ true → (read (turnedA 1) .balance k) .weight i ≡ (read inOrderA .balance k) .weight i
-    weights zero i h a = eqb-true _ _ (every-true 8 sameWeight refl i (agent-inside (arrayIn fileA) i a))
+    weights : (k i : ℕ) → k < 1 → isAgent (nodeAt (arrayIn fileA) i) ≡ true → (read s .balance k) .weight i ≡ (read inOrderA .balance k) .weight i
+    weights zero i h a = eqb-true _ _ (every-true 8 (sameWeight s) same i (agent-inside (arrayIn fileA) i a))
     weights (suc k) i h a = absurd (omega (arith, h))
+
+turned-alike : Alike (arrayIn fileA) (read (turnedA 1)) (read inOrderA)
+unfolding computed
+turned-alike = alike-by (turnedA 1) refl refl refl refl
+
+repeated-alike : Alike (arrayIn fileA) (read repeatedA) (read inOrderA)
+unfolding computed
+repeated-alike = alike-by repeatedA refl refl refl refl
 
 -- what is promised of the table in order, which is held
 promised : Judges fileA inOrderA (verdictOf K.Held (sizesIn fileA inOrderA))
@@ -156,8 +139,9 @@ promised = ruled-judges fileA inOrderA refl (read-array fileA refl) (read-table 
 pub kept : Kept
 unfolding computed
 kept =
-    let there = untouched fileA inOrderA (turnedA 1) refl refl (alike-back (arrayIn fileA) _ _ alike) (claims-back _ _ (turned 1)) in
-    let back = untouched fileA (turnedA 1) inOrderA refl refl alike (turned 1) in
+    let there =
+    untouched fileA inOrderA repeatedA refl refl (alike-back (arrayIn fileA) _ _ repeated-alike) (claims-back _ _ repeated) in
+    let back = untouched fileA repeatedA inOrderA refl refl repeated-alike repeated in
     record {
       refuses = refl;
       rules = there .0 .0 (promised .exactly refl .0 tt);
@@ -171,9 +155,9 @@ unkept = record {
   holds = λ d. let z : 1 ≤ 0 = d (λ i. false) (meets ∷ []) .claims 0 (omega arith) in absurd (omega (arith, z));
   atStart = λ b. let z : 1 ≤ 0 = b (λ i. false) [] 0 (omega arith) in absurd (omega (arith, z));
   afterStep = λ b. let z : 1 ≤ 0 = b (λ i. false) (meets ∷ []) 1 (omega arith) in absurd (omega (arith, z));
-  repeat = λ o. let z : _≡_ {A = ℕ} 2 1 = o once (are-bytes once refl) refl repeated .many in absurd (omega (arith, z));
-  order = λ o. let z : _≡_ {A = ℕ} 6 5 = o inOrderA (are-bytes inOrderA refl) refl (turned 0) .bytes 0 (omega arith) 0 (omega arith) in absurd (omega (arith, z));
-  file = λ o. let z : _≡_ {A = ℕ} 6 5 = ap (λ s. getD s 116 0) (o inOrderA (are-bytes inOrderA refl) refl alike (turned 1)) in absurd (omega (arith, z));
+  repeat = λ o. let z : _≡_ {A = ℕ} 3 2 = o inOrderA ordered refl repeated .many in absurd (omega (arith, z));
+  order = λ o. let z : _≡_ {A = ℕ} 6 5 = o inOrderA ordered refl (turned 0) .bytes 0 (omega arith) 0 (omega arith) in absurd (omega (arith, z));
+  file = λ o. let z : _≡_ {A = ℕ} 6 5 = ap (λ s. getD s 116 0) (o inOrderA ordered refl turned-alike (turned 1)) in absurd (omega (arith, z));
   bytes = λ b. let z : _≡_ {A = ℕ} 0 1 = b .bytes 1 (omega arith) 7 (omega arith) in absurd (omega (arith, z));
 }
 

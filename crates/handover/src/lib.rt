@@ -4,7 +4,7 @@
 //   read_array   specs/Front: refusals 1 to 12, or what the trailer says
 //   remark       specs/File of arrays: the leading part of the caller's own slice
 //   read_table   specs/Front: refusals 1 to 21, 30 and 31, or the sizes; a table that is read has its claims in their one order, and no other
-//                that is read beside the same array says the same
+//                that is read beside the same array has the same rows, balances and claims
 //   check        specs/Front: refusals 1 to 21, 30 and 31, the first broken rule and its place, or held; held exactly when the five rules hold
 //                (demand 2), and then demand 3
 //   start        specs/Engine: refusals 1 to 12, 22, 28, or the thread count; the list holds the calculus' start

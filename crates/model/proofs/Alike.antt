@@ -10,10 +10,11 @@ use mathlib.Core.List.{List, [], _∷_}
 use mathlib.Core.Option.{Option, none, some}
 use lib.Dec.{eqb, leb, ltb}
 use lib.ListN.{length, getD}
+use borrow.Author.Tests.{eqb-true, ltb-true}
 use Rattle.laws.specs.Search.{clear, test, first, every}
 use Rattle.laws.specs.Lists.{All}
 use Rattle.laws.proofs.Search.{same-test, test-clear, clear-test, andThen-split, andThen-join, first-clear, clear-first, first-same}
-use Rattle.laws.proofs.Search.{every-same, any-same, sum-same}
+use Rattle.laws.proofs.Search.{and-split, every-true, every-same, any-same, sum-same}
 use Rattle.laws.proofs.Lists.{All-at}
 use Rattle.model.specs.Tree.{Array, nodeAt, isAgent, isNew, Sort, Proc, procAt, Agent, asAgent, agentAt, load}
 use Rattle.model.specs.Formed.{WellFormed}
@@ -154,6 +155,34 @@ listed t u many each = record {
   there = λ c h. (c, rw (← many) h, sym (each c h));
   back = λ c h. let k : c < t .claims = rw many h in (c, k, each c k);
 }
+
+-- by the place of each claim in the other table
+abbrev sameClaim : Claim → Claim → Bool
+sameClaim x y = eqb (x .set) (y .set) && (eqb (x .agent) (y .agent) && (eqb (x .most) (y .most) && eqb (x .balance) (y .balance)))
+
+same-claim : (x y : Claim) → sameClaim x y ≡ true → y ≡ x
+same-claim x y e =
+    let s = and-split (eqb (x .set) (y .set)) _ e in
+    let a = and-split (eqb (x .agent) (y .agent)) _ (s .1) in
+    let m = and-split (eqb (x .most) (y .most)) _ (a .1) in
+    let set-is : y .set ≡ x .set = sym (eqb-true _ _ (s .0)) in
+    let agent-is : y .agent ≡ x .agent = sym (eqb-true _ _ (a .0)) in
+    let most-is : y .most ≡ x .most = sym (eqb-true _ _ (m .0)) in
+    let balance-is : y .balance ≡ x .balance = sym (eqb-true _ _ (m .1)) in
+    λ i. record { agent = agent-is i; most = most-is i; balance = balance-is i; set = set-is i }
+
+unfoldable pub placed : Table → Table → List ℕ → Bool
+placed t u places = every (t .claims) λ c. ltb (getD places c 0) (u .claims) && sameClaim (t .claim c) (u .claim (getD places c 0))
+
+pub same-by : (t u : Table) (there back : List ℕ) → placed t u there ≡ true → placed u t back ≡ true → SameClaims t u
+unfolding placed
+same-by t u there back e f = record { there = among t u there e; back = among u t back f }
+  where
+    among : (t u : Table) (places : List ℕ) → placed t u places ≡ true → Each (t .claims) (λ c. Among u (t .claim c))
+    among t u places e c h =
+        let k = getD places c 0 in
+        let s = and-split (ltb k (u .claims)) _ (every-true (t .claims) _ e c h) in
+        (k, ltb-true k (u .claims) (s .0), same-claim (t .claim c) (u .claim k) (s .1))
 
 -- an agent of claim c's set is in the set of the same claim d of the other table
 in-other : (t u : Table) → SameClaims t u → (c d i : ℕ) → d < u .claims → t .claim c ≡ u .claim d → inSet t c i ≡ true → inSet u d i ≡ true

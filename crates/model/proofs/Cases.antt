@@ -29,7 +29,6 @@ use Rattle.model.specs.Rules.{Table, Live, Rule2, Rule3, Rule4At, Claims
 use Rattle.model.specs.Rules.{FirstPair, FirstBroken, broken1, broken2, broken3, broken4, broken5}
 use Rattle.model.specs.declared.Claim.{Claim}
 use Rattle.model.specs.Safe as Z
-use Rattle.model.specs.Same.{Among}
 use Rattle.model.specs.Safe.{Safe, Flows}
 use Rattle.model.specs.Cases.{A, B, D, tableA, table, claim, claimIn, rowsA, weightsA}
 use Rattle.model.specs.Cases.{limits, brimful, joint, tableD, opened, thread, threeOfA, twiceBroken, H, tableH}
@@ -37,6 +36,7 @@ use Rattle.model.proofs.Verdict.{live-Live, first5}
 use Rattle.model.specs.Cases.{pair, lists, walkEnded, A₁, B₀, B₁, B₁₂, B₂, B₃, B₄, G, G₁, G₂, Row, Says}
 use Rattle.model.specs.Cases.{rows, setRows, sameRows, safeRows, stepRows, walkRows, toldRows, laterRows}
 use Rattle.model.proofs.Safety.{demand3}
+use Rattle.model.proofs.Alike.{placed, same-by}
 
 -- Whoever unfolds this unfolds every definition of the model.
 computed : Unit {0}
@@ -150,19 +150,8 @@ sums-joint = refl
 -- ---- claims as a set
 
 same-any : Says (Row.same (brimful (claim 6 2 ∷ claimIn 7 3 1 ∷ claim 6 2 ∷ [])) (brimful (claimIn 7 3 1 ∷ claim 6 2 ∷ [])))
-unfolding table
-same-any = record { there = there; back = back }
-  where
-    there : (c : ℕ) → c < 3 → Among (brimful (claimIn 7 3 1 ∷ claim 6 2 ∷ [])) (brimful (claim 6 2 ∷ claimIn 7 3 1 ∷ claim 6 2 ∷ []) .claim c)
-    there zero h = (1, omega arith, refl)
-    there (suc zero) h = (0, omega arith, refl)
-    there (suc (suc zero)) h = (1, omega arith, refl)
-    there (suc (suc (suc c))) h = absurd (omega (arith, h))
-
-    back : (c : ℕ) → c < 2 → Among (brimful (claim 6 2 ∷ claimIn 7 3 1 ∷ claim 6 2 ∷ [])) (brimful (claimIn 7 3 1 ∷ claim 6 2 ∷ []) .claim c)
-    back zero h = (1, omega arith, refl)
-    back (suc zero) h = (0, omega arith, refl)
-    back (suc (suc c)) h = absurd (omega (arith, h))
+unfolding computed table placed
+same-any = same-by _ _ (1 ∷ 0 ∷ 1 ∷ []) (1 ∷ 0 ∷ []) refl refl
 
 -- a table of agent 6 alone has no claim of agent 3
 none-of-three : (c : ℕ) → c < 1 → brimful (claim 6 2 ∷ []) .claim c ≡ claimIn 7 3 1 → ⊥

@@ -1,5 +1,5 @@
--- The order of claims (02, request ii) is strict, so claims that rise have no repeat, and total, so that any claims can be put in order; those of
--- one set lie side by side; and which they are fixes the place of each.
+-- The order of claims (02, request ii) is strict, so claims that rise have no repeat, and total: of two different claims one comes after the other.
+-- Those of one set lie side by side, and which they are fixes the place of each.
 use Prim.Native.Nat.{ℕ, zero, suc, _≤_, _<_}
 use native.Mathlib.Nat.{eq-or-lt-of-le, not-suc-le-zero, le-of-suc-le-suc, le-refl}
 use native.Mathlib.Omega.{arith}
