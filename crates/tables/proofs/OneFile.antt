@@ -1,5 +1,5 @@
--- Two tables that are read beside the same array, with the same rows and balances and the same claims as a set, are one file, byte by byte: rows
--- and balances are laid down by 19, 20 and the sizes, the claims by their order (31), and the trailer by 14 to 18.
+-- Two tables that are read beside the same array, with the same rows and balances and the same claims as a set, are one file, byte by byte: what no
+-- agent weighs, and the padding, is 0 (20), the claims are in their order (31), and the trailer is laid down by 14 and 16 to 18.
 use Prim.Native.Nat.{ℕ, zero, suc, _+_, _-_, _*_, _/_, _%_, _≤_, _<_}
 use native.Mathlib.Nat.{add-zero, add-assoc, zero-mul, suc-mul, le-refl}
 use native.Mathlib.Omega.{arith}
