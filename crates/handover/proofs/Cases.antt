@@ -80,9 +80,10 @@ fileA = pis 3 nodesA
 abbrev read : List ℕ → Table
 read s = tableIn fileA s
 
-ordered : All (λ b. b < 256) inOrderA
+-- the table in order consists of bytes
+in-bytes : All (λ b. b < 256) inOrderA
 unfolding computed
-ordered = All-map (λ b h. ltb-true b 256 h) inOrderA (every-All (λ b. ltb b 256) 0 inOrderA refl)
+in-bytes = All-map (λ b h. ltb-true b 256 h) inOrderA (every-All (λ b. ltb b 256) 0 inOrderA refl)
 
 -- the same claims as those of the table in order
 turned : (w : ℕ) → SameClaims (read (turnedA w)) (read inOrderA)
@@ -155,9 +156,9 @@ unkept = record {
   holds = λ d. let z : 1 ≤ 0 = d (λ i. false) (meets ∷ []) .claims 0 (omega arith) in absurd (omega (arith, z));
   atStart = λ b. let z : 1 ≤ 0 = b (λ i. false) [] 0 (omega arith) in absurd (omega (arith, z));
   afterStep = λ b. let z : 1 ≤ 0 = b (λ i. false) (meets ∷ []) 1 (omega arith) in absurd (omega (arith, z));
-  repeat = λ o. let z : _≡_ {A = ℕ} 3 2 = o inOrderA ordered refl repeated .many in absurd (omega (arith, z));
-  order = λ o. let z : _≡_ {A = ℕ} 6 5 = o inOrderA ordered refl (turned 0) .bytes 0 (omega arith) 0 (omega arith) in absurd (omega (arith, z));
-  file = λ o. let z : _≡_ {A = ℕ} 6 5 = ap (λ s. getD s 116 0) (o inOrderA ordered refl turned-alike (turned 1)) in absurd (omega (arith, z));
+  repeat = λ o. let z : _≡_ {A = ℕ} 3 2 = o inOrderA in-bytes refl repeated .many in absurd (omega (arith, z));
+  order = λ o. let z : _≡_ {A = ℕ} 6 5 = o inOrderA in-bytes refl (turned 0) .bytes 0 (omega arith) 0 (omega arith) in absurd (omega (arith, z));
+  file = λ o. let z : _≡_ {A = ℕ} 6 5 = ap (λ s. getD s 116 0) (o inOrderA in-bytes refl turned-alike (turned 1)) in absurd (omega (arith, z));
   bytes = λ b. let z : _≡_ {A = ℕ} 0 1 = b .bytes 1 (omega arith) 7 (omega arith) in absurd (omega (arith, z));
 }
 
