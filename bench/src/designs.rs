@@ -1,6 +1,12 @@
-//! The designs of the checker: array and table. Each has weight 1 for every agent in K balances of bound 2,
-//! 256 claims where K isn't 0 (fewer where agents are too few for one set), and is held, but for `broken`; so every
-//! live pair is looked at.
+//! The designs of the checker: array and table. Unless a part says otherwise, each has weight 1 for every agent in K
+//! balances of bound 2 and 256 claims where K isn't 0 (fewer where agents are too few for one set). All are held, but
+//! for `broken`; so every live pair is looked at.
+
+mod defeats;
+mod fleet;
+
+pub use defeats::{defeat, defeat_rows, defeat_sparse, defeat_spread, ended};
+pub use fleet::{fleet, fleet_mixed};
 
 use crate::files::{array_file, chain, record, table_file, Agent, Balance, Claim, Record, IN, NEW, OUT, PAR};
 use outside::order;
@@ -84,27 +90,45 @@ pub fn sets(nodes: usize, set: Sets) -> Files {
     files(&records, &[row(0)], &[ones(&records, 2)], set)
 }
 
+/// Agents without arguments on the channels in turn.
+fn over_channels(kind: u8, count: usize, channels: usize) -> Vec<Agent> {
+    (0..count).map(|i| (kind, i % channels, vec![])).collect()
+}
+
+/// Rows of channels that nothing else holds.
+fn own_rows(channels: usize) -> Vec<[u64; 4]> {
+    (0..channels).map(row).collect()
+}
+
 /// `pairs`, but each pair on one of `channels` channels with rows of their own: few pairs are live.
 pub fn sparse(nodes: usize, channels: usize, balances: usize) -> Files {
     let room = nodes - 3 - channels;
-    let agent = |kind| move |i| (kind, i % channels, vec![]);
-    let receivers: Vec<Agent> = (0..room / 2).map(agent(IN)).collect();
-    let senders: Vec<Agent> = (0..room - room / 2).map(agent(OUT)).collect();
-    let rows: Vec<[u64; 4]> = (0..channels).map(row).collect();
-    held(&two_chains(channels, &receivers, &senders), &rows, balances)
+    let receivers = over_channels(IN, room / 2, channels);
+    let senders = over_channels(OUT, room - room / 2, channels);
+    held(&two_chains(channels, &receivers, &senders), &own_rows(channels), balances)
 }
 
-/// Receivers of arity 8, as many as the names allow beside 8 news, then senders of arity 8 that send every
-/// parameter in turn. All rows are full and every pair is live.
-pub fn arguments(nodes: usize, names: usize, balances: usize) -> Files {
-    let count = names / 8 - 1;
+/// 8 news, then receivers of arity 8 as the names allow, senders of arity 8 that send every parameter in turn, and
+/// `last`.
+fn of_eight(nodes: usize, names: usize, last: &[Agent]) -> Vec<Record> {
+    let count = receivers_of_eight(names);
     let mut records: Vec<Record> = (0..8).map(|name| record(NEW, name + 1, 0, name, &[])).collect();
     let params = |i: usize| (8 * i + 8..8 * i + 16).map(|v| v as u8).collect();
     let sent = |i: usize| (0..8).map(|k| (8 + (8 * i + 5 * k) % (8 * count)) as u8).collect();
     let mut agents: Vec<Agent> = (0..count).map(|i| (IN, 0, params(i))).collect();
-    agents.extend((0..nodes - 9 - count).map(|i| (OUT, 0, sent(i))));
+    agents.extend((0..nodes - 9 - count - last.len()).map(|i| (OUT, 0, sent(i))));
+    agents.extend_from_slice(last);
     chain(&mut records, &agents);
-    held(&records, &vec![[255, 0, 0, 0]; names], balances)
+    records
+}
+
+fn receivers_of_eight(names: usize) -> usize {
+    names / 8 - 1
+}
+
+/// All rows are full and every pair is live.
+pub fn arguments(nodes: usize, names: usize, balances: usize) -> Files {
+    held(&of_eight(nodes, names, &[]), &vec![[255, 0, 0, 0]; names], balances)
 }
 
 /// `pairs` with a second channel that no one sends on. Only the last live pair breaks rule 4, in the last

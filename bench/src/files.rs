@@ -33,7 +33,12 @@ pub fn array_file(records: &[Record], names: usize) -> Vec<u8> {
 /// A table for the array.
 pub fn table_file(array: &[u8], rows: &[[u64; 4]], balances: &[Balance], claims: Vec<Claim>) -> Vec<u8> {
     let bytes = |row: &[u64; 4]| std::array::from_fn(|i| row[i / 8].to_le_bytes()[i % 8]);
+    let (rows, balances) = (rows.iter().map(bytes).collect(), balances.to_vec());
+    TableFile { rows, balances, claims, array_sum: word_sum(array) }.bytes()
+}
+
+/// The word sum that an array file has.
+pub fn word_sum(array: &[u8]) -> u32 {
     let at = array.len() - 8;
-    let array_sum = u32::from_le_bytes(array[at..at + 4].try_into().expect("four bytes"));
-    TableFile { rows: rows.iter().map(bytes).collect(), balances: balances.to_vec(), claims, array_sum }.bytes()
+    u32::from_le_bytes(array[at..at + 4].try_into().expect("four bytes"))
 }

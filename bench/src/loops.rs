@@ -20,7 +20,7 @@ pub struct Loaded {
 }
 
 /// News, then `count` sides under a chain of pars; `build` adds side k.
-fn side_by_side(news: &[usize], count: usize, build: impl Fn(&mut Vec<Record>, usize) -> usize) -> Vec<Record> {
+pub fn side_by_side(news: &[usize], count: usize, build: impl Fn(&mut Vec<Record>, usize) -> usize) -> Vec<Record> {
     let new = |(i, name): (usize, &usize)| record(NEW, i + 1, 0, *name, &[]);
     let mut records: Vec<Record> = news.iter().enumerate().map(new).collect();
     let joints = records.len();

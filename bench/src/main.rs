@@ -13,27 +13,43 @@ mod versions;
 use designs::Files;
 use loops::Loaded;
 use timing::{measure, Measured};
-use versions::{Call, Case};
+use versions::{Call, Case, FILTERED, VERSIONS};
 
-/// Starts a table: the columns given, then `unit` for each version and the two ratios.
-fn head(title: &str, columns: &[&str], unit: &str) {
+/// As many copies as names allow.
+const FLEET: usize = 15;
+
+/// Starts a table: the columns given, then `unit` for each version, then ratios.
+fn begin(title: &str, columns: &[&str], versions: &[&str], unit: &str, ratios: &[&str]) {
     println!("\n### {title}\n");
-    let versions = ["proved", "plain", "tuned"].map(|version| format!("{version}, {unit}"));
-    let all = [&columns.join(" | "), &versions.join(" | "), "proved/plain | proved/tuned"].join(" | ");
-    println!("| {all} |");
-    println!("|{}", "---|".repeat(columns.len() + 5));
+    let mut all: Vec<String> = columns.iter().map(|column| column.to_string()).collect();
+    all.extend(versions.iter().map(|version| format!("{version}, {unit}")));
+    all.extend(ratios.iter().map(|ratio| ratio.to_string()));
+    row(&all);
+    println!("|{}", "---|".repeat(all.len()));
 }
 
-/// A line of a table; times are divided by `steps`.
-fn line(columns: &[String], measured: &Measured, steps: f64) {
-    let [proved, plain, tuned] = measured.best.map(|micros| micros / steps);
-    let time = |micros: f64| match micros {
+/// Starts a table of all versions.
+fn head(title: &str, columns: &[&str], unit: &str) {
+    begin(title, columns, &["proved", "plain", "tuned"], unit, &["proved/plain", "proved/tuned"]);
+}
+
+fn row(cells: &[String]) {
+    println!("| {} |", cells.join(" | "));
+}
+
+fn time(micros: f64) -> String {
+    match micros {
         _ if micros < 10.0 => format!("{micros:.3}"),
         _ if micros < 1000.0 => format!("{micros:.1}"),
         _ => format!("{micros:.0}"),
-    };
-    let times = [time(proved), time(plain), time(tuned)].join(" | ");
-    println!("| {} | {times} | {:.2} | {:.2} |", columns.join(" | "), proved / plain, proved / tuned);
+    }
+}
+
+/// A line of a table of all versions; times are divided by `steps`.
+fn line(columns: &[String], measured: &Measured<3>, steps: f64) {
+    let [proved, plain, tuned] = measured.best.map(|micros| micros / steps);
+    let ratios = [proved / plain, proved / tuned].map(|ratio| format!("{ratio:.2}"));
+    row(&[columns, &[proved, plain, tuned].map(time), &ratios].concat());
 }
 
 fn check_case(files: &Files, call: Call) -> Case {
@@ -41,41 +57,73 @@ fn check_case(files: &Files, call: Call) -> Case {
     Case { array, table, choices: vec![], lent: Default::default(), call }
 }
 
+const DESIGN: [&str; 4] = ["design", "M", "N", "K"];
+
+fn design(name: &str, files: &Files) -> [String; 4] {
+    let [nodes, names, balances] = [files.nodes, files.names, files.balances].map(|size| size.to_string());
+    [name.to_string(), nodes, names, balances]
+}
+
 /// Measures a check that is to give `answer`.
 fn check(name: &str, files: &Files, answer: u64) {
-    let measured = measure(&check_case(files, Call::Check));
+    let measured = measure(&check_case(files, Call::Check), &VERSIONS);
     assert_eq!(measured.answer & 0xff, answer, "{name}");
-    let sizes = [files.nodes, files.names, files.balances].map(|size| size.to_string());
-    line(&[&[name.to_string()], &sizes[..]].concat(), &measured, 1.0);
+    line(&design(name, files), &measured, 1.0);
 }
 
 fn checks() {
-    let columns = ["design", "M", "N", "K"];
-    head("Checks", &columns, "µs");
+    head("Checks", &DESIGN, "µs");
     check("pairs", &designs::pairs(1024, 24), 0);
     check("broken", &designs::broken(1024, 24), 4);
     check("arguments", &designs::arguments(1024, 256, 24), 0);
     check("sparse", &designs::sparse(1024, 128, 24), 0);
+    check("fleet", &designs::fleet(FLEET), 0);
+    check("fleet_mixed", &designs::fleet_mixed(FLEET), 0);
     let files = designs::arguments(1024, 256, 24);
     let name = "reading the array of arguments".to_string();
-    line(&[name, "1024".into(), "256".into(), "".into()], &measure(&check_case(&files, Call::Read)), 1.0);
+    line(&[name, "1024".into(), "256".into(), "".into()], &measure(&check_case(&files, Call::Read), &VERSIONS), 1.0);
 
-    head("Checks by M (pairs)", &columns, "µs");
+    head("Checks by M (pairs)", &DESIGN, "µs");
     for nodes in [64, 128, 256, 512, 1024] {
         check("pairs", &designs::pairs(nodes, 24), 0);
     }
-    head("Checks by N (arguments)", &columns, "µs");
+    head("Checks by N (arguments)", &DESIGN, "µs");
     for names in [16, 32, 64, 128, 256] {
         check("arguments", &designs::arguments(1024, names, 24), 0);
     }
-    head("Checks by K (pairs)", &columns, "µs");
+    head("Checks by K (pairs)", &DESIGN, "µs");
     for balances in [0, 1, 2, 4, 8, 16, 24] {
         check("pairs", &designs::pairs(512, balances), 0);
     }
-    head("Checks by sets (pairs, 256 claims)", &columns, "µs");
+    head("Checks by sets (pairs, 256 claims)", &DESIGN, "µs");
     check("claims alone", &designs::sets(64, |_| 0), 0);
     check("one set (60 claims)", &designs::sets(64, |_| 1), 0);
     check("256 sets", &designs::sets(64, |c| c as u16 + 1), 0);
+}
+
+/// A held design without and with a filter.
+fn filtered(name: &str, files: &Files) {
+    let measured = measure(&check_case(files, Call::Check), &FILTERED);
+    assert_eq!(measured.answer, 0, "{name}");
+    row(&[&design(name, files)[..], &measured.best.map(time)].concat());
+}
+
+fn filters() {
+    head("Checks that the filter does not help", &DESIGN, "µs");
+    check("defeat", &designs::defeat(1024, 24), 0);
+    check("defeat_rows", &designs::defeat_rows(1024, 256, 24), 0);
+    check("defeat_sparse", &designs::defeat_sparse(1024, 128, 24), 0);
+    check("defeat_spread", &designs::defeat_spread(1024, 24), 0);
+    check("ended", &designs::ended(1024, 24), 0);
+
+    let versions = ["proved", "tuned", "tuned with sets by arity", "tuned with sets by channel name"];
+    begin("Tuned with a filter", &DESIGN, &versions, "µs", &[]);
+    filtered("pairs", &designs::pairs(1024, 24));
+    filtered("arguments", &designs::arguments(1024, 256, 24));
+    filtered("sparse", &designs::sparse(1024, 128, 24));
+    filtered("fleet", &designs::fleet(FLEET));
+    filtered("fleet_mixed", &designs::fleet_mixed(FLEET));
+    filtered("defeat", &designs::defeat(1024, 24));
 }
 
 fn engine_case(loaded: &Loaded, call: Call) -> Case {
@@ -85,7 +133,7 @@ fn engine_case(loaded: &Loaded, call: Call) -> Case {
 
 /// Measures the walk, for each step of it.
 fn walk(name: &str, loaded: &Loaded, allowed: u32) {
-    let measured = measure(&engine_case(loaded, Call::Walk { allowed }));
+    let measured = measure(&engine_case(loaded, Call::Walk { allowed }), &VERSIONS);
     let (threads, _, steps) = handover::counts(measured.answer);
     assert_eq!(steps, allowed, "{name}");
     let call = format!("{:.1}", measured.best[0]);
@@ -108,7 +156,7 @@ fn walks() {
 
 /// Measures the step of the first two threads.
 fn step(loaded: &Loaded) {
-    let measured = measure(&engine_case(loaded, Call::Step { receiver: 1, sender: 0 }));
+    let measured = measure(&engine_case(loaded, Call::Step { receiver: 1, sender: 0 }), &VERSIONS);
     assert_eq!(handover::code(measured.answer), 0);
     let sizes = [loaded.lent.thread_count, loaded.lent.marker_count].map(|size| size.to_string());
     line(&sizes, &measured, 1.0);
@@ -128,6 +176,7 @@ fn steps() {
 
 fn main() {
     checks();
+    filters();
     walks();
     steps();
 }

@@ -1,7 +1,7 @@
 //! The best time of each version on one case.
 
 use crate::loops::Lent;
-use crate::versions::{agreed, Case, VERSIONS};
+use crate::versions::{agreed, Case, Version};
 use std::hint::black_box;
 use std::time::{Duration, Instant};
 
@@ -10,10 +10,10 @@ const LEAST_ROUNDS: usize = 25;
 const MOST_ROUNDS: usize = 3000;
 const ENOUGH: Duration = Duration::from_millis(1000);
 
-/// What all versions answer, and the best microseconds of each.
-pub struct Measured {
+/// What all versions answer, and the best microseconds of each that was timed.
+pub struct Measured<const V: usize> {
     pub answer: u64,
-    pub best: [f64; 3],
+    pub best: [f64; V],
 }
 
 fn restore(lent: &mut Lent, case: &Case) {
@@ -22,13 +22,13 @@ fn restore(lent: &mut Lent, case: &Case) {
 }
 
 /// Versions take turns, one call each; the lists are restored before each call, outside its time.
-pub fn measure(case: &Case) -> Measured {
+pub fn measure<const V: usize>(case: &Case, versions: &[Version; V]) -> Measured<V> {
     let answer = agreed(case);
     let mut lent = case.lent.clone();
-    let mut best = [f64::INFINITY; 3];
+    let mut best = [f64::INFINITY; V];
     let begin = Instant::now();
     for round in 0..WARM_UP + MOST_ROUNDS {
-        for (version, best) in VERSIONS.iter().zip(&mut best) {
+        for (version, best) in versions.iter().zip(&mut best) {
             restore(&mut lent, case);
             let start = Instant::now();
             black_box(version(black_box(case), black_box(&mut lent)));

@@ -1,7 +1,7 @@
-//! The three versions behind one call. Every answer takes the form of `include/handover.h`.
+//! The versions behind one call. Every answer takes the form of `include/handover.h`.
 
 use crate::loops::Lent;
-use crate::tuned;
+use crate::tuned::{self, BY_ARITY, BY_CHANNEL, NO_SETS};
 use handover::Lists;
 use outside::packed;
 
@@ -23,7 +23,10 @@ pub struct Case {
 
 pub type Version = fn(&Case, &mut Lent) -> u64;
 
-pub const VERSIONS: [Version; 3] = [proved, plain, tuned];
+pub const VERSIONS: [Version; 3] = [proved, plain, tuned::<NO_SETS>];
+/// Proved and tuned, then tuned with a filter in its check.
+pub const FILTERED: [Version; 4] = [proved, tuned::<NO_SETS>, tuned::<BY_ARITY>, tuned::<BY_CHANNEL>];
+const EVERY: [Version; 5] = [proved, plain, tuned::<NO_SETS>, tuned::<BY_ARITY>, tuned::<BY_CHANNEL>];
 
 fn lists(lent: &mut Lent) -> Lists<'_> {
     Lists {
@@ -43,10 +46,10 @@ fn proved(case: &Case, lent: &mut Lent) -> u64 {
     }
 }
 
-fn tuned(case: &Case, lent: &mut Lent) -> u64 {
+fn tuned<const SETS: usize>(case: &Case, lent: &mut Lent) -> u64 {
     match case.call {
         Call::Read => tuned::remark(&case.array) as u64,
-        Call::Check => tuned::check(&case.array, &case.table),
+        Call::Check => tuned::check::<SETS>(&case.array, &case.table),
         Call::Step { receiver, sender } => tuned::step(&case.array, &case.choices, lists(lent), receiver, sender),
         Call::Walk { allowed } => tuned::walk(&case.array, &case.choices, lists(lent), allowed),
     }
@@ -73,14 +76,14 @@ fn plain_walk(case: &Case, l: Lists, allowed: u32) -> u64 {
     packed::walked(plain::walk(array, choices, l.threads, threads, l.markers, markers, allowed))
 }
 
-/// The answer that all three give, each on lists of its own. Panics if answers or words differ.
+/// The answer that every version gives, each on lists of its own. Panics if answers or words differ.
 pub fn agreed(case: &Case) -> u64 {
-    let mut lent = [case.lent.clone(), case.lent.clone(), case.lent.clone()];
-    let mut answers = [0; 3];
-    for (k, version) in VERSIONS.iter().enumerate() {
+    let mut lent = [(); EVERY.len()].map(|()| case.lent.clone());
+    let mut answers = [0; EVERY.len()];
+    for (k, version) in EVERY.iter().enumerate() {
         answers[k] = version(case, &mut lent[k]);
     }
-    assert!(answers[0] == answers[1] && answers[0] == answers[2], "answers differ: {answers:x?}");
-    assert!(lent[0] == lent[1] && lent[0] == lent[2], "words differ after {:x}", answers[0]);
+    assert!(answers.iter().all(|answer| *answer == answers[0]), "answers differ: {answers:x?}");
+    assert!(lent.iter().all(|words| *words == lent[0]), "words differ after {:x}", answers[0]);
     answers[0]
 }

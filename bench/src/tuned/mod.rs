@@ -5,6 +5,7 @@
 
 mod array;
 mod engine;
+mod filter;
 mod formed;
 mod index;
 mod lanes;
@@ -15,10 +16,29 @@ mod rules;
 mod table;
 
 pub use engine::{step, walk};
+pub use filter::{BY_ARITY, BY_CHANNEL, NO_SETS};
 pub use rules::check;
+
+use std::mem::MaybeUninit;
 
 /// 256 marks, one for each name.
 type Row = [u64; 4];
+
+/// A row for each name below N.
+type Rows = [MaybeUninit<Row>; 256];
+
+/// Safety: the name's row is there.
+unsafe fn row_of(rows: &Rows, name: u8) -> &Row {
+    rows.get_unchecked(usize::from(name)).assume_init_ref()
+}
+
+fn shares(one: &Row, other: &Row) -> bool {
+    (0..4).fold(0, |bits, w| bits | one[w] & other[w]) != 0
+}
+
+fn within(row: &Row, other: &Row) -> bool {
+    (0..4).fold(0, |bits, w| bits | row[w] & !other[w]) == 0
+}
 
 fn has(row: &Row, name: u8) -> bool {
     row[usize::from(name >> 6)] >> (name & 63) & 1 == 1

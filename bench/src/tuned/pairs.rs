@@ -3,9 +3,10 @@
 //! receiver meets only those that it may be live with.
 
 use super::array::{Array, Node};
+use super::filter::Filter;
 use super::lanes::{lacks, outweighs, Lanes};
 use super::table::Table;
-use super::{add, all_of, has, Row};
+use super::{add, all_of, has, row_of, shares, within, Row, Rows};
 use std::mem::MaybeUninit;
 
 /// A broken rule and its place.
@@ -43,7 +44,7 @@ struct Search<'a, const L: usize> {
     array: &'a Array<'a>,
     loads: &'a [MaybeUninit<Lanes<L>>; 1024],
     bounds: [u32; L],
-    rows: [MaybeUninit<Row>; 256],
+    rows: Rows,
     senders: [MaybeUninit<Sender<L>>; 1024],
     of_arity: [Set; 9],
     on_channel: [Set; 256],
@@ -56,10 +57,10 @@ struct Search<'a, const L: usize> {
 }
 
 /// The first broken rule. Rule 4's first pair is kept while rule 3 is looked for to the end, so that liveness
-/// is decided once.
+/// is decided once. A receiver that the filter passes is not looked at.
 ///
 /// Safety: the table was read for the array, and the loads are those of all its nodes.
-pub unsafe fn search<const L: usize>(
+pub unsafe fn search<const L: usize, const SETS: usize>(
     array: &Array,
     table: &Table,
     loads: &[MaybeUninit<Lanes<L>>; 1024],
@@ -79,18 +80,20 @@ pub unsafe fn search<const L: usize>(
     };
     (0..table.balances).for_each(|k| *search.bounds.get_unchecked_mut(k) = table.bound(k));
     (0..array.names).for_each(|v| _ = search.rows.get_unchecked_mut(v).write(table.row(v)));
-    search.list_senders();
+    let mut filter = Filter::<L, SETS>::new();
+    search.list_senders(&mut filter);
     let mut fourth = None;
     for p in 0..array.nodes {
         let node = array.node(p);
-        if node.kind() >= 5 && L + node.arity() > 0 {
+        let asks = node.kind() >= 5 && L + node.arity() > 0;
+        if asks && !filter.passes(node, &search.give(p, node), &search.rows) {
             let third = search.meet(p, node, &mut fourth);
             if third.is_some() {
                 return third;
             }
         }
     }
-    fourth
+    fourth.and_then(|(p, q)| search.rule_4(p, q))
 }
 
 impl<const L: usize> Search<'_, L> {
@@ -99,10 +102,10 @@ impl<const L: usize> Search<'_, L> {
     }
 
     unsafe fn row(&self, name: u8) -> &Row {
-        self.rows.get_unchecked(usize::from(name)).assume_init_ref()
+        row_of(&self.rows, name)
     }
 
-    unsafe fn list_senders(&mut self) {
+    unsafe fn list_senders<const SETS: usize>(&mut self, filter: &mut Filter<L, SETS>) {
         let mut count = 0;
         for q in 0..self.array.nodes {
             let node = self.array.node(q);
@@ -110,6 +113,7 @@ impl<const L: usize> Search<'_, L> {
                 continue;
             }
             let sender = self.sender(q, node);
+            filter.add(node, &sender.need, &self.rows);
             self.senders.get_unchecked_mut(count).write(sender);
             let (word, bit) = (count / 64, 1 << (count % 64));
             let arity = node.arity();
@@ -131,20 +135,24 @@ impl<const L: usize> Search<'_, L> {
         sender
     }
 
+    /// The most that a sender may need of receiver p.
+    unsafe fn give(&self, p: usize, node: Node) -> Lanes<L> {
+        let (own, next) = (self.load(p), self.load(node.left()));
+        std::array::from_fn(|k| if node.kind() == 5 { own[k] } else { 0 } - next[k])
+    }
+
     /// None where a balance has the receiver's own weight above its bound: it is in no live pair.
     unsafe fn receiver(&self, p: usize, node: Node) -> Option<Receiver<L>> {
-        let (own, next) = (self.load(p), self.load(node.left()));
-        let mut receiver = Receiver { node: p, arity: node.arity(), slack: [0; L], give: [0; L], inside: [0; 256] };
-        for k in 0..L {
-            let slack = self.bounds[k].checked_sub(own[k] as u32)?;
+        let give = self.give(p, node);
+        let mut receiver = Receiver { node: p, arity: node.arity(), slack: [0; L], give, inside: [0; 256] };
+        for (k, own) in self.load(p).iter().enumerate() {
+            let slack = self.bounds[k].checked_sub(*own as u32)?;
             receiver.slack[k] = slack.min(0xffff) as u16;
-            receiver.give[k] = if node.kind() == 5 { own[k] } else { 0 } - next[k];
         }
         all_of(self.sent.get_unchecked(node.arity()), |v| {
             let sent = self.row(v);
             for k in 0..node.arity() {
-                let param = self.row(node.arg(k));
-                let fits = (0..4).fold(0, |bits, w| bits | sent[w] & !param[w]) == 0;
+                let fits = within(sent, self.row(node.arg(k)));
                 *receiver.inside.get_unchecked_mut(usize::from(v)) |= u8::from(fits) << k;
             }
             true
@@ -159,8 +167,8 @@ impl<const L: usize> Search<'_, L> {
             let own = self.row(channel);
             let mut set = [0; 16];
             all_of(&self.channels, |c| {
-                let (row, senders) = (self.row(c), self.on_channel.get_unchecked(usize::from(c)));
-                if (0..4).fold(0, |bits, w| bits | own[w] & row[w]) != 0 {
+                let senders = self.on_channel.get_unchecked(usize::from(c));
+                if shares(own, self.row(c)) {
                     (0..16).for_each(|w| set[w] |= senders[w]);
                 }
                 true
@@ -171,8 +179,15 @@ impl<const L: usize> Search<'_, L> {
         self.partners.get_unchecked(at).assume_init()
     }
 
+    /// The place in a pair that breaks rule 4. The search keeps the pair alone, so that its loop has the registers.
+    unsafe fn rule_4(&self, p: usize, q: usize) -> Option<Pair> {
+        let (need, give) = (self.sender(q, self.array.node(q)).need, self.give(p, self.array.node(p)));
+        let n = (0..L).find(|k| need[*k] > give[*k])?;
+        Some(Pair { rule: 4, p, q, n })
+    }
+
     /// The receiver with every sender of its arity that its channel shares a bit with.
-    unsafe fn meet(&mut self, p: usize, node: Node, fourth: &mut Option<Pair>) -> Option<Pair> {
+    unsafe fn meet(&mut self, p: usize, node: Node, fourth: &mut Option<(usize, usize)>) -> Option<Pair> {
         let partners = self.partners(node.name());
         let same = self.of_arity.get_unchecked(node.arity());
         let receiver = self.receiver(p, node)?;
@@ -192,7 +207,7 @@ impl<const L: usize> Search<'_, L> {
                     }
                 }
                 if lacks(&sender.need, &receiver.give) && fourth.is_none() {
-                    *fourth = rule_4(&receiver, sender);
+                    *fourth = Some((p, sender.node));
                 }
             }
         }
@@ -208,9 +223,4 @@ unsafe fn rule_3<const L: usize>(receiver: &Receiver<L>, sender: &Sender<L>) -> 
     }
     let n = (!held).trailing_zeros() as usize;
     (n < receiver.arity).then_some(Pair { rule: 3, p: receiver.node, q: sender.node, n: n + 1 })
-}
-
-fn rule_4<const L: usize>(receiver: &Receiver<L>, sender: &Sender<L>) -> Option<Pair> {
-    let n = (0..L).find(|k| sender.need[*k] > receiver.give[*k])?;
-    Some(Pair { rule: 4, p: receiver.node, q: sender.node, n })
 }

@@ -7,25 +7,26 @@ use super::table::{self, Table};
 use super::{all_of, has};
 use std::mem::MaybeUninit;
 
-pub fn check(array: &[u8], table: &[u8]) -> u64 {
+/// With a filter of that many sets.
+pub fn check<const SETS: usize>(array: &[u8], table: &[u8]) -> u64 {
     let judged = array::read(array).and_then(|array| {
         let table = table::read(&array, table)?;
-        Ok(unsafe { judge(&array, &table) })
+        Ok(unsafe { judge::<SETS>(&array, &table) })
     });
     judged.unwrap_or_else(|refusal| refusal)
 }
 
 /// Balances are taken eight at a time.
-unsafe fn judge(array: &Array, table: &Table) -> u64 {
+unsafe fn judge<const SETS: usize>(array: &Array, table: &Table) -> u64 {
     match table.balances.div_ceil(8) {
-        0 => rules::<0>(array, table),
-        1 => rules::<8>(array, table),
-        2 => rules::<16>(array, table),
-        _ => rules::<24>(array, table),
+        0 => rules::<0, SETS>(array, table),
+        1 => rules::<8, SETS>(array, table),
+        2 => rules::<16, SETS>(array, table),
+        _ => rules::<24, SETS>(array, table),
     }
 }
 
-unsafe fn rules<const L: usize>(array: &Array, table: &Table) -> u64 {
+unsafe fn rules<const L: usize, const SETS: usize>(array: &Array, table: &Table) -> u64 {
     let mut broken = 0;
     let first = |o: u8| {
         broken = 1 + (u64::from(o) << 8);
@@ -42,7 +43,7 @@ unsafe fn rules<const L: usize>(array: &Array, table: &Table) -> u64 {
             return 2 + ((k as u64) << 8);
         }
     }
-    match pairs::search::<L>(array, table, &loads) {
+    match pairs::search::<L, SETS>(array, table, &loads) {
         Some(Pair { rule, p, q, n }) => rule + ((p as u64) << 8) + ((q as u64) << 24) + ((n as u64) << 40),
         None => rule_5(table),
     }

@@ -84,11 +84,18 @@ module _ (before after : List ℕ) (i k : ℕ) (few : k < 24) (fits : entryIndex
 -- ---- the loads of the process tree
 
 -- an entry that is a load is at most what 1024 nodes of 16-bit weights could weigh
+pub small-load : (a : Array) → WellFormed a → (w : ℕ → ℕ) → ((j : ℕ) → w j ≤ 65535) → (loads : List ℕ) → (i k : ℕ) → i < a .size
+    → loadIn loads i k ≡ load w (procAt a i) → loadIn loads i k < 134217728
+small-load a ok w small loads i k h e =
+    let n = ok .fewNodes in
+    let b = load-bound a (ok .children) (ok .parents) w i h 65535 small in
+    omega arith
+
 pub half-load : (a : Array) → WellFormed a → (w : ℕ → ℕ) → ((j : ℕ) → w j ≤ 65535) → (loads : List ℕ) → length loads ≡ 24576
     → (i k : ℕ) → i < a .size → k < 24 → loadIn loads i k ≡ load w (procAt a i) → Half loads i k
 half-load a ok w small loads size i k h few e =
     let n = ok .fewNodes in
-    let b = load-bound a (ok .children) (ok .parents) w i h 65535 small in
+    let b = small-load a ok w small loads i k h e in
     (omega arith, omega arith)
 
 module _ (s : List ℕ) (t : Trailer) (ok : WellFormed (arrayOf s t)) (i : ℕ) (h : i < t .nodes) (r : Record) (e : r ≡ recordOf s t i) where

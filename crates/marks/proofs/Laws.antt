@@ -3,21 +3,22 @@ use Prim.Native.Nat.{ℕ, _+_, _*_, _/_, _%_, _^_, _≤_, _<_}
 use native.Mathlib.Nat.{zero-add}
 use native.Mathlib.Omega.{arith}
 use mathlib.Core.Path.{_≡_, refl, sym, ap, ap₂, _∙_}
-use mathlib.Core.Logic.{_⊎_, inl, inr}
+use mathlib.Core.Logic.{_⊎_, inl, inr, ⊎-elim}
 use mathlib.Core.Bool.{Bool, true, false, cond, not, _&&_, _||_, or-false}
 use mathlib.Core.List.{List}
 use lib.Bits.{bitOr}
-use lib.Dec.{eqb}
+use lib.Dec.{eqb, ltb}
 use lib.ListN.{length, getD, replicate, length-set, List·getD-eq-default}
-use borrow.Author.Tests.{eqb-true, eqb-false, eq-eqb, ne-eqb}
+use borrow.Author.Tests.{eqb-true, eqb-false, eq-eqb, ne-eqb, ltb-true, ltb-false, lt-ltb}
 use Rattle.laws.specs.Search.{any, every}
 use Rattle.laws.specs.Bits.{bit}
-use Rattle.laws.proofs.Search.{decided, same-test, any-same, any-blocks, every-same, every-blocks}
+use Rattle.laws.proofs.Search.{decided, and-split, and-join, or-split, or-left, or-right, implies, implied, same-test, any-true, true-any, any-same, any-blocks}
+use Rattle.laws.proofs.Search.{every-true, true-every, every-same, every-blocks}
 use Rattle.laws.proofs.Lists.{getD-set, getD-zeros}
 use Rattle.laws.proofs.Bits.{bit-zero, bit-pow, bit-or}
 use Rattle.wire.specs.Numbers.{u64At}
 use Rattle.wire.proofs.Laws.{bit-u64}
-use Rattle.marks.specs.Marks.{wordAt, marked, markIf, wordsShare, wordInside, share, inside}
+use Rattle.marks.specs.Marks.{wordAt, HasRow, marked, markIf, wordsShare, wordInside, share, inside, joinWord, Joined}
 
 -- two names in the same word of a row
 same-place : (u v : ℕ) → u / 64 ≡ v / 64 → eqb (u % 64) (v % 64) ≡ eqb u v
@@ -84,12 +85,13 @@ marked-word t u j k h =
     let r : (64 * j + k) % 64 ≡ k = omega arith in
     ap₂ (λ (m n : ℕ). bit (getD t (wordAt u m) 0) n) q r
 
-pub share-words : (t : List ℕ) (u v : ℕ) → share t u v ≡ wordsShare t u v 0 || wordsShare t u v 1 || wordsShare t u v 2 || wordsShare t u v 3
+pub share-words : (s : List ℕ) (u : ℕ) (t : List ℕ) (v : ℕ)
+    → share s u t v ≡ wordsShare s u t v 0 || wordsShare s u t v 1 || wordsShare s u t v 2 || wordsShare s u t v 3
 unfolding share wordsShare
-share-words t u v =
-    any-blocks 64 4 (λ o. marked t u o && marked t v o)
-    ∙ any-same 4 _ (wordsShare t u v) (λ j h. any-same 64 _ _ (λ k l. ap₂ _&&_ (marked-word t u j k l) (marked-word t v j k l)))
-    ∙ any-four (wordsShare t u v)
+share-words s u t v =
+    any-blocks 64 4 (λ o. marked s u o && marked t v o)
+    ∙ any-same 4 _ (wordsShare s u t v) (λ j h. any-same 64 _ _ (λ k l. ap₂ _&&_ (marked-word s u j k l) (marked-word t v j k l)))
+    ∙ any-four (wordsShare s u t v)
 
 pub inside-words : (s : List ℕ) (u : ℕ) (t : List ℕ) (v : ℕ)
     → inside s u t v ≡ wordInside s u t v 0 && wordInside s u t v 1 && wordInside s u t v 2 && wordInside s u t v 3
@@ -110,3 +112,107 @@ marked-bytes s rows n byte word v o h l =
     ap (λ (x : ℕ). bit x (o % 64)) (word (4 * v + o / 64) (omega arith))
     ∙ bit-u64 s byte (8 * (4 * v + o / 64)) (o % 64) (omega arith)
     ∙ ap₂ (λ (x y : ℕ). bit (getD s x 0) y) q r
+
+-- ---- a row with the marks of another
+
+-- what a row holds when the words below w are joined
+abbrev pub Joining : List ℕ → List ℕ → ℕ → List ℕ → ℕ → ℕ → Type 0
+Joining before after u from v w =
+    ((x o : ℕ) → o < 256 → marked after x o ≡ marked before x o || (eqb x u && (ltb o (64 * w) && marked from v o))) × (length after ≡ length before)
+
+pub join-begun : (s : List ℕ) (u : ℕ) (t : List ℕ) (v : ℕ) → Joining s s u t v 0
+join-begun s u t v = (λ x o h. sym (ap (λ (b : Bool). marked s x o || b) (none (eqb x u) (marked t v o) o) ∙ or-false _), refl)
+  where
+    none : (a b : Bool) (n : ℕ) → a && (ltb n 0 && b) ≡ false
+    none true b n = elim (decided (ltb n 0)) [ inl e ↦ absurd (omega (arith, ltb-true n 0 e)) | inr e ↦ rw e ]
+    none false b n = refl
+
+-- one word more
+module _ (s : List ℕ) (u : ℕ) (t : List ℕ) (v w : ℕ) (fits : HasRow s u) (few : w < 4) where
+  join-marked : (x o : ℕ) → o < 256 → marked (joinWord s u t v w) x o ≡ marked s x o || (eqb x u && (eqb (o / 64) w && marked t v o))
+  unfolding marked
+  join-marked x o h =
+      ap (λ (n : ℕ). bit n (o % 64)) (getD-set s (wordAt u w) _ (wordAt x (o / 64)) 0 (omega arith)) ∙ go (decided (eqb (wordAt x (o / 64)) (wordAt u w)))
+    where
+      go : (eqb (wordAt x (o / 64)) (wordAt u w) ≡ true) ⊎ (eqb (wordAt x (o / 64)) (wordAt u w) ≡ false)
+          → bit (cond (eqb (wordAt x (o / 64)) (wordAt u w)) (bitOr (getD s (wordAt u w) 0) (getD t (wordAt v w) 0)) (getD s (wordAt x (o / 64)) 0)) (o % 64)
+          ≡ marked s x o || (eqb x u && (eqb (o / 64) w && marked t v o))
+      go (inl e) =
+          let q = eqb-true (wordAt x (o / 64)) (wordAt u w) e in
+          let here : x ≡ u = omega arith in
+          let word : o / 64 ≡ w = omega arith in
+          rw (e, eq-eqb x u here, eq-eqb (o / 64) w word, here, word) (bit-or (getD s (wordAt u w) 0) (getD t (wordAt v w) 0) (o % 64))
+      go (inr e) =
+          rw (e, elsewhere (decided (eqb x u)) (decided (eqb (o / 64) w))) (sym (or-false _))
+        where
+          elsewhere : (eqb x u ≡ true) ⊎ (eqb x u ≡ false) → (eqb (o / 64) w ≡ true) ⊎ (eqb (o / 64) w ≡ false)
+              → eqb x u && (eqb (o / 64) w && marked t v o) ≡ false
+          elsewhere (inr a) b = rw a
+          elsewhere (inl a) (inr b) = rw (a, b)
+          elsewhere (inl a) (inl b) =
+              absurd (eqb-false (wordAt x (o / 64)) (wordAt u w) e (ap₂ wordAt (eqb-true x u a) (eqb-true (o / 64) w b)))
+
+  pub join-more : (before : List ℕ) → Joining before s u t v w → Joining before (joinWord s u t v w) u t v (w + 1)
+  join-more before j = (
+    λ x o h.
+        join-marked x o h
+        ∙ ap (λ (b : Bool). b || (eqb x u && (eqb (o / 64) w && marked t v o))) (j .0 x o h)
+        ∙ both (marked before x o) (eqb x u) (ltb o (64 * w)) (eqb (o / 64) w) (marked t v o)
+        ∙ ap (λ (b : Bool). marked before x o || (eqb x u && (b && marked t v o))) (next o),
+    length-set s _ _ ∙ j .1,
+  )
+    where
+      both : (a b c d m : Bool) → (a || (b && (c && m))) || (b && (d && m)) ≡ a || (b && ((c || d) && m))
+      both true b c d m = refl
+      both false false c d m = refl
+      both false true true d true = refl
+      both false true true d false = and-none d
+        where
+          and-none : (d : Bool) → d && false ≡ false
+          and-none true = refl
+          and-none false = refl
+      both false true false d m = refl
+
+      next : (o : ℕ) → ltb o (64 * w) || eqb (o / 64) w ≡ ltb o (64 * (w + 1))
+      next o =
+          same-test _ _
+          (λ e. ⊎-elim (λ a. let b = ltb-true o (64 * w) a in lt-ltb o (64 * (w + 1)) (omega arith))
+          (λ a. let b = eqb-true (o / 64) w a in lt-ltb o (64 * (w + 1)) (omega arith)) (or-split _ _ e))
+          (λ e. let b = ltb-true o (64 * (w + 1)) e in
+          ⊎-elim (λ a. or-left _ _ a) (λ a. or-right (ltb o (64 * w)) _ (let c = ltb-false o (64 * w) a in eq-eqb (o / 64) w (omega arith)))
+          (decided (ltb o (64 * w))))
+
+pub join-done : (before after : List ℕ) (u : ℕ) (t : List ℕ) (v : ℕ) → Joining before after u t v 4 → Joined before after u t v
+join-done before after u t v j = record {
+  rows = λ x o h. j .0 x o h ∙ ap (λ (b : Bool). marked before x o || (eqb x u && (b && marked t v o))) (lt-ltb o 256 h);
+  size = j .1;
+}
+
+-- ---- containment: of a row in itself, in what it is joined to, and from row to row
+
+module _ (s : List ℕ) (u : ℕ) (t : List ℕ) (v : ℕ) where
+  pub inside-marked : inside s u t v ≡ true → (o : ℕ) → o < 256 → marked s u o ≡ true → marked t v o ≡ true
+  unfolding inside
+  inside-marked e o h = implies _ _ (every-true 256 _ e o h)
+
+  pub marked-inside : ((o : ℕ) → o < 256 → marked s u o ≡ true → marked t v o ≡ true) → inside s u t v ≡ true
+  unfolding inside
+  marked-inside f = true-every 256 _ (λ o h. implied _ _ (f o h))
+
+pub inside-trans : (r : List ℕ) (x : ℕ) (s : List ℕ) (u : ℕ) (t : List ℕ) (v : ℕ) → inside r x s u ≡ true → inside s u t v ≡ true → inside r x t v ≡ true
+inside-trans r x s u t v e f = marked-inside r x t v (λ o h k. inside-marked s u t v f o h (inside-marked r x s u e o h k))
+
+-- a row that shares a mark with one shares it with what contains that
+pub share-inside : (r : List ℕ) (x : ℕ) (s : List ℕ) (u : ℕ) (t : List ℕ) (v : ℕ) → inside r x s u ≡ true → share t v r x ≡ true → share s u t v ≡ true
+unfolding share
+share-inside r x s u t v e f =
+    let found = any-true 256 _ f in
+    let both = and-split _ _ (found .2) in
+    true-any 256 _ (found .0) (found .1) (and-join (inside-marked r x s u e (found .0) (found .1) (both .1)) (both .0))
+
+module _ (before after : List ℕ) (u : ℕ) (t : List ℕ) (v : ℕ) (j : Joined before after u t v) where
+  pub join-keeps : (x : ℕ) → inside before x after x ≡ true
+  join-keeps x = marked-inside before x after x (λ o h k. j .rows x o h ∙ or-left _ _ k)
+
+  pub join-adds : inside t v after u ≡ true
+  join-adds = marked-inside t v after u (λ o h k. j .rows u o h ∙ or-right (marked before u o) _ (and-join (eq-eqb u u refl) k))

@@ -3,7 +3,7 @@
 ghost use mathlib.Core.Path.{_≡_};
 ghost use Prim.Native.Nat.{_/_, _<_};
 ghost use lib.ListN.{length, getD, set};
-ghost use Rattle.marks.specs.Marks.{wordAt, HasRow, marked, markIf, wordsShare, wordInside, share, inside};
+ghost use Rattle.marks.specs.Marks.{wordAt, HasRow, marked, markIf, wordsShare, wordInside, share, inside, joinWord, Joined};
 
 // Where word w of row u stands.
 fn index_of(u: usize, w: usize) -> usize
@@ -48,13 +48,13 @@ pub fn mark_if(row: &mut [u64], on: bool, v: usize)
     }
 }
 
-// Word w of rows u and v: they have a bit in common.
-fn words_share(rows: &[u64], u: usize, v: usize, w: usize) -> bool
-    requires { ⌜ HasRow (now rows) u × HasRow (now rows) v × (w < 4) ⌝ }
-    ensures { λ b. ⌜ b ≡ wordsShare (now (rows .entry)) u v w ⌝ }
+// Word w of row u of one list and of row v of another: they have a bit in common.
+fn words_share(one: &[u64], u: usize, other: &[u64], v: usize, w: usize) -> bool
+    requires { ⌜ HasRow (now one) u × HasRow (now other) v × (w < 4) ⌝ }
+    ensures { λ b. ⌜ b ≡ wordsShare (now (one .entry)) u (now (other .entry)) v w ⌝ }
 {
-    let x = word_at(rows, u, w);
-    let y = word_at(rows, v, w);
+    let x = word_at(one, u, w);
+    let y = word_at(other, v, w);
     x & y != 0
 }
 
@@ -68,15 +68,15 @@ fn word_inside(one: &[u64], u: usize, other: &[u64], v: usize, w: usize) -> bool
     x & y == x
 }
 
-// Rows u and v have a mark in common.
-pub fn shares(rows: &[u64], u: usize, v: usize) -> bool
-    requires { ⌜ HasRow (now rows) u × HasRow (now rows) v ⌝ }
-    ensures { λ b. ⌜ b ≡ share (now (rows .entry)) u v ⌝ }
+// Row u of one list and row v of the other have a mark in common.
+pub fn shares(one: &[u64], u: usize, other: &[u64], v: usize) -> bool
+    requires { ⌜ HasRow (now one) u × HasRow (now other) v ⌝ }
+    ensures { λ b. ⌜ b ≡ share (now (one .entry)) u (now (other .entry)) v ⌝ }
 {
-    words_share(rows, u, v, 0)
-        | words_share(rows, u, v, 1)
-        | words_share(rows, u, v, 2)
-        | words_share(rows, u, v, 3)
+    words_share(one, u, other, v, 0)
+        | words_share(one, u, other, v, 1)
+        | words_share(one, u, other, v, 2)
+        | words_share(one, u, other, v, 3)
 }
 
 // Every mark of row u of one list is a mark of row v of the other.
@@ -88,4 +88,26 @@ pub fn contained(one: &[u64], u: usize, other: &[u64], v: usize) -> bool
         & word_inside(one, u, other, v, 1)
         & word_inside(one, u, other, v, 2)
         & word_inside(one, u, other, v, 3)
+}
+
+// Row u of one list has the marks of word w of row v of the other, beside its own.
+fn join_word(one: &mut [u64], u: usize, other: &[u64], v: usize, w: usize)
+    requires { ⌜ HasRow (now one) u × HasRow (now other) v × (w < 4) ⌝ }
+    ensures { λ _. ⌜ now (one .exit) ≡ joinWord (now (one .entry)) u (now (other .entry)) v w ⌝ }
+{
+    let x = word_at(one, u, w);
+    let y = word_at(other, v, w);
+    set_word(one, u, w, x | y);
+}
+
+// Row u of one list has the marks of row v of the other, beside its own.
+pub fn join(one: &mut [u64], u: usize, other: &[u64], v: usize)
+    requires { ⌜ HasRow (now one) u × HasRow (now other) v ⌝ }
+    ensures { λ _. ⌜ Joined (now (one .entry)) (now (one .exit)) u (now (other .entry)) v ⌝ }
+{
+    let mut w: usize = 0;
+    while w < 4 {
+        join_word(one, u, other, v, w);
+        w += 1;
+    }
 }

@@ -4,7 +4,6 @@ use native.Mathlib.Omega.{arith}
 use mathlib.Core.Path.{_≡_, refl, sym, ap, ap₂, _∙_}
 use mathlib.Core.Logic.{inl, inr}
 use mathlib.Core.Bool.{Bool, true, false, cond, _&&_, true≢false}
-use mathlib.Core.List.{List}
 use mathlib.Core.Option.{Option, none, some}
 use lib.Dec.{eqb, leb}
 use lib.ListN.{getD}
@@ -18,41 +17,26 @@ use Rattle.model.specs.Tree.{Array, Agent, agentAt, isAgent, receives}
 use Rattle.model.specs.Memory.{isOut, isResource}
 use Rattle.model.specs.Rules.{Table, live, shareBit, fitBoth, within, taken, loadLeft, weightGone, Verdict, onLive}
 use Rattle.records.specs.declared.Record.{Record}
-use Rattle.records.specs.declared.Trailer.{Trailer}
-use Rattle.records.specs.Record.{argsOf, sortOf, nodeOf, arrayOf}
+use Rattle.records.specs.Record.{argsOf, sortOf, nodeOf}
 use Rattle.records.specs.Kinds.{isReceiver}
 use Rattle.records.proofs.KindLaws.{receiver-is, sender-is, agent-sort, resource-is, in-is}
-use Rattle.arrays.specs.File.{IsRead}
-use Rattle.arrays.specs.Agents.{agentIn, Reads}
+use Rattle.arrays.specs.Agents.{agentIn}
 use Rattle.arrays.proofs.Agents.{agent-is, no-agent, small-arity, arity-is, name-below, args-below, left-below}
 use Rattle.loads.specs.Loads.{loadIn}
 use Rattle.pairs.specs.declared.Side.{Side}
-use Rattle.pairs.specs.Pairs.{listTable, Lists, Weighed, figureHolds, livePair, argumentHolds, balanceHolds}
-use Rattle.pairs.specs.Pairs.{takenOf, holdsAt, NameRow, ArgumentRows, HalfPair}
+use Rattle.pairs.specs.Pairs.{Setting, Given, Held, arrayIn, tableIn, figureHolds, meets, livePair, argumentHolds, balanceHolds}
+use Rattle.pairs.specs.Pairs.{takenOf, holdsAt, NameRow, ArgumentRows, HalfPair, Figures}
 
--- an array file, and lists of n balances
-pub record Setting : Type 0 where
-  pub f : List ℕ
-  pub t : Trailer
-  pub n : ℕ
-  pub rows : List ℕ
-  pub loads : List ℕ
-  pub bounds : List ℕ
-
-abbrev pub setting : List ℕ → Trailer → ℕ → List ℕ → List ℕ → List ℕ → Setting
-setting f t n rows loads bounds = record { f = f; t = t; n = n; rows = rows; loads = loads; bounds = bounds }
-
-pub record Given (S : Setting) : Type 0 where
-  pub read : IsRead (S .f) (S .t)
-  pub lists : Lists (S .n) (S .rows) (S .bounds)
-  pub weighed : Weighed (S .loads) (arrayOf (S .f) (S .t)) (S .n)
-
--- a side of the file
-abbrev pub Held : Setting → Side → Type 0
-Held S p = Reads (S .f) (S .t) (p .number) (p .node)
+-- q may come to p
+abbrev pub near : Setting → Side → Side → Bool
+near S p q = meets (S .rows) p q
 
 abbrev pub alive : Setting → Side → Side → Bool
 alive S p q = livePair (S .rows) (S .loads) (S .bounds) (S .n) p q
+
+-- a live pair meets
+pub live-near : (S : Setting) (p q : Side) → alive S p q ≡ true → near S p q ≡ true
+live-near S p q l = and-split (near S p q) _ l .0
 
 -- an in's weight goes, a resource's stays
 taken-is : (r : Record) → isReceiver (nodeOf r) ≡ true → (w : ℕ) → takenOf r w ≡ taken (sortOf r) w
@@ -64,10 +48,10 @@ arg-is r m h = getD-take (r .arity) (r .args) m 0 h
 
 module _ {S : Setting} (g : Given S) where
   abbrev a : Array
-  a = arrayOf (S .f) (S .t)
+  a = arrayIn S
 
   abbrev T : Table
-  T = listTable (S .rows) (S .loads) (S .bounds) (S .n)
+  T = tableIn S
 
   -- ---- rows of an agent's names
 
@@ -77,7 +61,7 @@ module _ {S : Setting} (g : Given S) where
   pub name-row : {p : Side} → Held S p → NameRow (S .rows) p
   name-row h k = row-fits _ (name-below (g .read) h k)
 
-  arg-row : {p : Side} → Held S p → isAgent (nodeOf (p .node)) ≡ true → (m : ℕ) → m < p .node .arity → HasRow (S .rows) (getD (p .node .args) m 0)
+  pub arg-row : {p : Side} → Held S p → isAgent (nodeOf (p .node)) ≡ true → (m : ℕ) → m < p .node .arity → HasRow (S .rows) (getD (p .node .args) m 0)
   arg-row {p} h k m l =
       let e = arity-is (g .read) h in
       row-fits _ (rw (← arg-is (p .node) m l) (All-getD (λ y. y < S .t .names) (argsOf (p .node)) m 0 (args-below (g .read) h k) (omega arith)))
@@ -100,7 +84,7 @@ module _ {S : Setting} (g : Given S) where
   -- ---- a receiver p, and q
 
   module _ {p : Side} (hp : Held S p) (rp : isReceiver (nodeOf (p .node)) ≡ true) {q : Side} (hq : Held S q) where
-    agent-p : isAgent (nodeOf (p .node)) ≡ true
+    pub agent-p : isAgent (nodeOf (p .node)) ≡ true
     agent-p = receiver-is (p .node) rp .0
 
     live-is : isAgent (nodeOf (q .node)) ≡ true → live T (p .number) (q .number) (agentIn a (p .node)) (agentIn a (q .node)) ≡ alive S p q
@@ -120,27 +104,33 @@ module _ {S : Setting} (g : Given S) where
         unsent : isAgent (nodeOf (q .node)) ≡ false → isOut (nodeOf (q .node)) ≡ false
         unsent k = elim (decided (isOut (nodeOf (q .node)))) [ inl e ↦ absurd (true≢false (sym (sender-is (q .node) e .0) ∙ k)) | inr e ↦ e ]
 
-    -- ---- the figures of a live pair
+    -- ---- the figures of a pair that may meet
 
-    module _ (l : alive S p q ≡ true) where
-      parts : (isOut (nodeOf (q .node)) ≡ true) × (eqb (p .node .arity) (q .node .arity) ≡ true)
-      parts = and-split _ _ (and-split (isOut (nodeOf (q .node)) && eqb (p .node .arity) (q .node .arity)) _ (and-split _ _ l .0) .0)
+    module _ (l : near S p q ≡ true) where
+      parts : (isOut (nodeOf (q .node)) && eqb (p .node .arity) (q .node .arity) ≡ true) × (share (S .rows) (p .node .name) (S .rows) (q .node .name) ≡ true)
+      parts = and-split _ _ l
+
+      pub live-shares : share (S .rows) (p .node .name) (S .rows) (q .node .name) ≡ true
+      live-shares = parts .1
 
       agent-q : isAgent (nodeOf (q .node)) ≡ true
-      agent-q = sender-is (q .node) (parts .0) .0
+      agent-q = sender-is (q .node) (and-split _ _ (parts .0) .0) .0
 
-      arities : p .node .arity ≡ q .node .arity
-      arities = eqb-true _ _ (parts .1)
+      pub arities : p .node .arity ≡ q .node .arity
+      arities = eqb-true _ _ (and-split (isOut (nodeOf (q .node))) _ (parts .0) .1)
 
       pub half-pair : (k : ℕ) → k < S .n → HalfPair (S .loads) p q k
       half-pair k h =
           let half : (i : ℕ) → i < S .t .nodes → _ = λ i b. g .weighed .half i b k h in
-          (half _ (hp .below), half _ (hq .below), half _ (left-below (g .read) hp agent-p), half _ (left-below (g .read) hq agent-q))
+          (half _ (hp .below), half _ (left-below (g .read) hp agent-p), half _ (hq .below), half _ (left-below (g .read) hq agent-q))
 
       pub argument-rows : (m : ℕ) → m < p .node .arity → ArgumentRows (S .rows) p q m
       argument-rows m h =
           let e = arities in
           (omega (arith, small-arity (g .read) hp), arg-row hp agent-p m h, arg-row hq agent-q m (omega arith))
+
+      pub figures-there : (rule : ℕ) → Figures rule (S .n) (S .rows) (S .loads) p q
+      figures-there rule = (λ e m h. argument-rows m h, λ e k h. half-pair k h)
 
       argument-is : (m : ℕ) → m < p .node .arity → within T (getD (argsOf (q .node)) m 0) (getD (argsOf (p .node)) m 0) ≡ argumentHolds (S .rows) p q m
       unfolding within inside

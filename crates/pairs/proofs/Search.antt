@@ -3,11 +3,11 @@ use Prim.Native.Nat.{ℕ, _+_, _≤_, _<_}
 use native.Mathlib.Omega.{arith}
 use mathlib.Core.Path.{_≡_, refl, sym, ap, _∙_}
 use mathlib.Core.Logic.{inl, inr}
-use mathlib.Core.Bool.{Bool, true, false, cond, not}
+use mathlib.Core.Bool.{Bool, true, false, cond, not, _&&_}
 use lib.Dec.{eqb}
-use borrow.Author.Tests.{not-true}
+use borrow.Author.Tests.{not-false}
 use Rattle.laws.specs.Search.{clear, hit, test, under, first}
-use Rattle.laws.proofs.Search.{decided, and-split, clear-test, hit-test, clear-under, first-zero, first-pass, first-here, first-same, clear-first, every-true}
+use Rattle.laws.proofs.Search.{decided, clear-test, hit-test, clear-under, first-zero, first-pass, first-here, first-same, clear-first, every-true}
 use Rattle.model.specs.Tree.{agentAt}
 use Rattle.model.specs.Rules.{Table, Verdict, onLive, pairs}
 use Rattle.records.specs.Record.{recordOf, nodeOf, arrayOf}
@@ -16,20 +16,18 @@ use Rattle.arrays.proofs.Agents.{small-arity, arity-is}
 use Rattle.pairs.specs.declared.Side.{Side}
 use Rattle.pairs.specs.declared.Place.{Place}
 use Rattle.pairs.specs.declared.Place.the-variants.{Nowhere, At}
-use Rattle.pairs.specs.Pairs.{listTable, placeOf, atPair, pairsOf, placed, figuresOf, holdsAt, pairHolds}
-use Rattle.pairs.proofs.Laws.{Setting, Given, Held, alive, no-receiver, pair-is, figure-is}
+use Rattle.pairs.specs.Pairs.{Setting, Given, Held, arrayIn, tableIn, placeOf, atPair, pairsAt, pairsOf, placed, Screened, figuresOf, holdsAt, allHold}
+use Rattle.pairs.specs.Pairs.{breaksPair}
+use Rattle.pairs.proofs.Laws.{near, alive, live-near, no-receiver, pair-is, figure-is}
 
 -- ---- the searches at a pair, at a receiver and at a figure
 
-abbrev pub tableIn : Setting → Table
-tableIn S = listTable (S .rows) (S .loads) (S .bounds) (S .n)
-
 abbrev pub pairAt : ℕ → Setting → ℕ → ℕ → Verdict
 pairAt rule S i j =
-    onLive (tableIn S) i j (agentAt (arrayOf (S .f) (S .t)) i) (agentAt (arrayOf (S .f) (S .t)) j) (atPair rule (tableIn S) i j)
+    onLive (tableIn S) i j (agentAt (arrayIn S) i) (agentAt (arrayIn S) j) (atPair rule (tableIn S) i j)
 
 abbrev pub rowAt : ℕ → Setting → ℕ → Verdict
-rowAt rule S i = first (S .t .nodes) (λ j. pairAt rule S i j)
+rowAt rule S i = pairsAt rule (arrayIn S) (tableIn S) i
 
 abbrev pub figureAt : ℕ → Setting → Side → Side → ℕ → Verdict
 figureAt rule S p q n = test (holdsAt rule (S .rows) (S .loads) p q n) (placeOf rule (p .number) (q .number) n)
@@ -73,27 +71,58 @@ pair-at rule {S} {p} {count} {q} g hp rp many hq =
     pair-is g hp rp hq (atPair rule (tableIn S) (p .number) (q .number))
     ∙ same-under (alive S p q) _ _ (λ l.
     rw (arity-is (g .read) hp, many)
-    (first-same _ _ _ (λ m h. ap (λ (b : Bool). test b (placeOf rule (p .number) (q .number) m)) (figure-is g hp rp hq l rule m h))))
+    (first-same _ _ _ (λ m h. ap (λ (b : Bool). test b (placeOf rule (p .number) (q .number) m)) (figure-is g hp rp hq (live-near S p q l) rule m h))))
+
+-- where the rule holds at every figure, it holds at each
+each-figure : (rule : ℕ) (S : Setting) (p q : Side) → allHold rule (S .n) (S .rows) (S .loads) p q ≡ true
+    → (m : ℕ) → m < cond (eqb rule 3) (p .node .arity) (S .n) → holdsAt rule (S .rows) (S .loads) p q m ≡ true
+each-figure rule S p q e m h =
+    elim (decided (eqb rule 3)) [
+      | inl three ↦ rw three (every-true _ _ (rw three at e) m (rw three at h))
+      | inr four ↦ rw four (every-true _ _ (rw four at e) m (rw four at h))
+    ]
+
+-- a live pair that does not break the rule
+whole : {b : Bool} (a : Bool) → b ≡ true → b && not a ≡ false → a ≡ true
+whole a u e = not-false a (rw u at e)
+
+-- ---- receivers at which nothing is found
+
+-- the file's side j
+abbrev pub sideAt : Setting → ℕ → Side
+sideAt S j = record { number = j; node = recordOf (S .f) (S .t) j }
+
+module _ (rule : ℕ) {S : Setting} {p : Side} (g : Given S) (r : Held S p) where
+  -- a node without figures: it receives nothing, or it has none
+  pub nothing-found : figuresOf rule (S .n) (p .node) ≡ 0 → rowAt rule S (p .number) ≡ clear
+  nothing-found e =
+      clear-first (S .t .nodes) _ (λ j l.
+      elim (decided (isReceiver (nodeOf (p .node)))) [
+        | inl k ↦ pair-at rule {q = sideAt S j} g r k (sym (rw k at e)) record { below = l; is = refl } ∙ clear-under (alive S p (sideAt S j)) _ (λ u. first-zero _)
+        | inr k ↦ no-receiver g r k j (atPair rule (tableIn S) (p .number) j)
+      ])
+
+  -- a receiver without a pair that breaks the rule
+  pub sound-row : isReceiver (nodeOf (p .node)) ≡ true → ((q : Side) → Held S q → breaksPair rule S p q ≡ false) → rowAt rule S (p .number) ≡ clear
+  sound-row k sound =
+      clear-first (S .t .nodes) _ (λ j l.
+      pair-at rule {q = sideAt S j} g r k refl record { below = l; is = refl }
+      ∙ clear-under (alive S p (sideAt S j)) _ (λ u.
+      clear-first _ _ (λ m h.
+      clear-test _ _ (each-figure rule S p (sideAt S j) (whole (allHold rule (S .n) (S .rows) (S .loads) p (sideAt S j)) u (sound (sideAt S j) record { below = l; is = refl })) m h))))
 
 module _ {rule : ℕ} {S : Setting} where
   pub begin : Given S → AtReceiver rule S Nowhere 0
   begin g = record { given = g; none = refl; within = omega arith; passed = first-zero _ }
 
   -- one receiver more
-  row-passed : {answer : Place} {i : ℕ} → AtReceiver rule S answer i → i < S .t .nodes → rowAt rule S i ≡ clear → AtReceiver rule S answer (i + 1)
+  pub row-passed : {answer : Place} {i : ℕ} → AtReceiver rule S answer i → i < S .t .nodes → rowAt rule S i ≡ clear → AtReceiver rule S answer (i + 1)
   row-passed {answer} {i} h l e = record { given = h .given; none = h .none; within = omega arith; passed = first-pass _ i (h .passed) e }
 
   module _ {p : Side} {answer : Place} (h : AtReceiver rule S answer (p .number)) where
-    -- a node without figures: it receives nothing, or it has none
+    -- a node without figures
     pub nothing-row : Held S p → figuresOf rule (S .n) (p .node) ≡ 0 → AtReceiver rule S answer (p .number + 1)
-    nothing-row r e =
-        row-passed h (r .below) (clear-first (S .t .nodes) _ (λ j l.
-        elim (decided (isReceiver (nodeOf (p .node)))) [
-          | inl k ↦
-              let q : Side = record { number = j; node = recordOf (S .f) (S .t) j } in
-              pair-at rule {q = q} (h .given) r k (sym (rw k at e)) record { below = l; is = refl } ∙ clear-under (alive S p q) _ (λ u. first-zero _)
-          | inr k ↦ no-receiver (h .given) r k j (atPair rule (tableIn S) (p .number) j)
-        ]))
+    nothing-row r e = row-passed h (r .below) (nothing-found rule (h .given) r e)
 
     -- a receiver, before its senders
     pub row : {count : ℕ} → Held S p → count ≡ figuresOf rule (S .n) (p .node) → (count ≡ 0 → ⊥) → AtSender rule S p count answer 0
@@ -105,7 +134,7 @@ module _ {rule : ℕ} {S : Setting} where
 
   -- every receiver passed
   pub nowhere : {answer : Place} {i : ℕ} → AtReceiver rule S answer i → S .t .nodes ≤ i
-      → placed rule answer ≡ pairsOf rule (arrayOf (S .f) (S .t)) (tableIn S)
+      → placed rule answer ≡ pairsOf rule (arrayIn S) (tableIn S)
   unfolding pairs
   nowhere {answer} {i} h l =
       let w = h .within in
@@ -129,19 +158,11 @@ module _ {rule : ℕ} {S : Setting} where
           passed = first-pass _ (q .number) (h .passed) e;
         }
 
-    -- a pair that is not live
-    pub skip-pair : alive S p q ≡ false → AtSender rule S p count answer (q .number + 1)
-    unfolding under
-    skip-pair e = pair-passed (found-at ∙ rw e)
-
-    -- a live pair at which rule 4 holds in every balance
-    pub whole-pair : alive S p q ≡ true → pairHolds rule (S .n) (S .loads) p q ≡ true → AtSender rule S p count answer (q .number + 1)
-    unfolding under
-    whole-pair l e =
-        let both = and-split (not (eqb rule 3)) _ e in
-        let four = not-true (eqb rule 3) (both .0) in
-        let many : count ≡ S .n = rw four at (h .many) in
-        pair-passed (found-at ∙ rw l (clear-first count _ (λ n k. clear-test _ _ (rw four (every-true (S .n) _ (both .1) n (omega arith))))))
+    -- a pair that does not break the rule
+    pub skip-pair : breaksPair rule S p q ≡ false → AtSender rule S p count answer (q .number + 1)
+    skip-pair e =
+        pair-passed (found-at ∙ clear-under (alive S p q) _ (λ l.
+        clear-first count _ (λ n k. clear-test _ _ (each-figure rule S p q (whole _ l e) n (rw (h .many) at k)))))
 
     -- a live pair, before its figures
     pub pair : alive S p q ≡ true → AtFigure rule S p count q answer 0
@@ -156,6 +177,9 @@ module _ {rule : ℕ} {S : Setting} where
       row-passed (h .receiver) (h .reads .below) (rw e at (h .passed))
 
   module _ {p : Side} {count : ℕ} {q : Side} {answer : Place} {n : ℕ} (h : AtFigure rule S p count q answer n) where
+    pub figure-near : near S p q ≡ true
+    figure-near = live-near S p q (h .lives)
+
     -- the rule holds here
     pub pass : n < count → holdsAt rule (S .rows) (S .loads) p q n ≡ true → AtFigure rule S p count q answer (n + 1)
     pass l e = record {
@@ -176,7 +200,7 @@ module _ {rule : ℕ} {S : Setting} where
 
     -- the rule fails here
     pub found : n < count → holdsAt rule (S .rows) (S .loads) p q n ≡ false
-        → placed rule (At (p .number) (q .number) n) ≡ pairsOf rule (arrayOf (S .f) (S .t)) (tableIn S)
+        → placed rule (At (p .number) (q .number) n) ≡ pairsOf rule (arrayIn S) (tableIn S)
     unfolding pairs under
     found l e =
         let w = h .sender in

@@ -1,18 +1,21 @@
 -- Rules 3 and 4 as one search over receiver, sender and a last figure, and the same by the checker's own lists.
 use Prim.Native.Nat.{ℕ, suc, _+_, _≤_, _<_}
 use mathlib.Core.Path.{_≡_}
-use mathlib.Core.Bool.{Bool, true, cond, not, _&&_}
+use mathlib.Core.Bool.{Bool, true, false, cond, not, _&&_}
 use mathlib.Core.List.{List, [], _∷_}
 use lib.Dec.{eqb, leb}
 use lib.ListN.{length, getD}
 use Rattle.laws.specs.Search.{clear, hit, test, first, every}
 use Rattle.marks.specs.Marks.{HasRow, marked, share, inside}
-use Rattle.model.specs.Tree.{Array, Agent, isAgent, procAt, load}
+use Rattle.model.specs.Tree.{Array, Agent, agentAt, nodeAt, isAgent, procAt, load}
 use Rattle.model.specs.Memory.{isOut, isResource}
-use Rattle.model.specs.Rules.{Table, Broken, Verdict, at, within, loadLeft, weightGone, pairs}
+use Rattle.model.specs.Rules.{Table, Broken, Verdict, at, within, loadLeft, weightGone, onLive, pairs}
 use Rattle.records.specs.declared.Record.{Record}
-use Rattle.records.specs.Record.{nodeOf}
+use Rattle.records.specs.declared.Trailer.{Trailer}
+use Rattle.records.specs.Record.{nodeOf, arrayOf}
 use Rattle.records.specs.Kinds.{isReceiver}
+use Rattle.arrays.specs.File.{IsRead}
+use Rattle.arrays.specs.Agents.{Reads}
 use Rattle.loads.specs.Loads.{loadIn, Half}
 use Rattle.pairs.specs.declared.Side.{Side}
 use Rattle.pairs.specs.declared.Place.{Place}
@@ -43,6 +46,36 @@ HalfRow loads n i = (k : ℕ) → k < n → Half loads i k
 pub record Weighed (loads : List ℕ) (a : Array) (n : ℕ) : Type 0 where
   pub half : (i : ℕ) → i < a .size → HalfRow loads n i
   pub weighs : (i k : ℕ) → i < a .size → k < n → loadIn loads i k ≡ load (λ j. loadIn loads j k) (procAt a i)
+  -- at most 1,024 weights of 16 bits each
+  pub small : (i k : ℕ) → i < a .size → k < n → loadIn loads i k < 134217728
+  pub light : (i k : ℕ) → isAgent (nodeAt a i) ≡ true → k < n → loadIn loads i k < 65536
+
+-- an array file, and lists of n balances
+pub record Setting : Type 0 where
+  pub f : List ℕ
+  pub t : Trailer
+  pub n : ℕ
+  pub rows : List ℕ
+  pub loads : List ℕ
+  pub bounds : List ℕ
+
+abbrev pub setting : List ℕ → Trailer → ℕ → List ℕ → List ℕ → List ℕ → Setting
+setting f t n rows loads bounds = record { f = f; t = t; n = n; rows = rows; loads = loads; bounds = bounds }
+
+pub record Given (S : Setting) : Type 0 where
+  pub read : IsRead (S .f) (S .t)
+  pub lists : Lists (S .n) (S .rows) (S .bounds)
+  pub weighed : Weighed (S .loads) (arrayOf (S .f) (S .t)) (S .n)
+
+abbrev pub arrayIn : Setting → Array
+arrayIn S = arrayOf (S .f) (S .t)
+
+abbrev pub tableIn : Setting → Table
+tableIn S = listTable (S .rows) (S .loads) (S .bounds) (S .n)
+
+-- a side of the file
+abbrev pub Held : Setting → Side → Type 0
+Held S p = Reads (S .f) (S .t) (p .number) (p .node)
 
 -- ---- the last figure: arguments for rule 3, balances for rule 4
 
@@ -64,6 +97,14 @@ atPair rule t i j p q = first (figures rule t p) λ n. test (figureHolds rule t 
 abbrev pub pairsOf : ℕ → Array → Table → Verdict
 pairsOf rule a t = pairs a t (atPair rule t)
 
+-- what is found at receiver i: the first of its live pairs that breaks the rule
+abbrev pub pairsAt : ℕ → Array → Table → ℕ → Verdict
+pairsAt rule a t i = first (a .size) λ j. onLive t i j (agentAt a i) (agentAt a j) (atPair rule t i j)
+
+-- a list with 0 for a node only where nothing is found there
+abbrev pub Screened : ℕ → Array → Table → List ℕ → Type 0
+Screened rule a t suspects = (i : ℕ) → i < a .size → getD suspects i 0 ≡ 0 → pairsAt rule a t i ≡ clear
+
 -- what a search over the pairs answers
 abbrev pub placed : ℕ → Place → Verdict
 placed rule Nowhere = clear
@@ -84,31 +125,42 @@ figuresOf rule n r = cond (isReceiver (nodeOf r)) (cond (eqb rule 3) (r .arity) 
 abbrev pub bearsBoth : List ℕ → List ℕ → ℕ → ℕ → ℕ → Bool
 bearsBoth loads bounds i j k = leb (loadIn loads i k + loadIn loads j k) (getD bounds k 0)
 
--- q sends, and with the receiver p it is a live pair
+-- q sends, by p's arity, on a channel whose row shares a bit with that of p's
+abbrev pub meets : List ℕ → Side → Side → Bool
+meets rows p q =
+    isOut (nodeOf (q .node)) && eqb (p .node .arity) (q .node .arity) && share rows (p .node .name) rows (q .node .name)
+
+-- with the receiver p it is a live pair
 abbrev pub livePair : List ℕ → List ℕ → List ℕ → ℕ → Side → Side → Bool
-livePair rows loads bounds n p q =
-    isOut (nodeOf (q .node))
-    && eqb (p .node .arity) (q .node .arity)
-    && share rows (p .node .name) (q .node .name)
-    && every n (bearsBoth loads bounds (p .number) (q .number))
+livePair rows loads bounds n p q = meets rows p q && every n (bearsBoth loads bounds (p .number) (q .number))
 
 abbrev pub argumentHolds : List ℕ → Side → Side → ℕ → Bool
 argumentHolds rows p q n = inside rows (getD (q .node .args) n 0) rows (getD (p .node .args) n 0)
 
--- what goes of a receiver's weight
+-- what goes of a receiver's weight: nothing where it stays
+abbrev pub goneOf : Bool → ℕ → ℕ
+goneOf stays weight = cond stays 0 weight
+
 abbrev pub takenOf : Record → ℕ → ℕ
-takenOf r weight = cond (isResource (nodeOf r)) 0 weight
+takenOf r weight = goneOf (isResource (nodeOf r)) weight
+
+-- receiver i, which stays or goes, with continuation l, and sender j with continuation r
+abbrev pub leavesRoom : List ℕ → Bool → ℕ → ℕ → ℕ → ℕ → ℕ → Bool
+leavesRoom loads stays i l j r k = leb (loadIn loads l k + loadIn loads r k) (loadIn loads j k + goneOf stays (loadIn loads i k))
 
 abbrev pub balanceHolds : List ℕ → Side → Side → ℕ → Bool
-balanceHolds loads p q k =
-    leb (loadIn loads (p .node .left) k + loadIn loads (q .node .left) k) (loadIn loads (q .number) k + takenOf (p .node) (loadIn loads (p .number) k))
+balanceHolds loads p q k = leavesRoom loads (isResource (nodeOf (p .node))) (p .number) (p .node .left) (q .number) (q .node .left) k
 
 abbrev pub holdsAt : ℕ → List ℕ → List ℕ → Side → Side → ℕ → Bool
 holdsAt rule rows loads p q n = cond (eqb rule 3) (argumentHolds rows p q n) (balanceHolds loads p q n)
 
--- the rule is 4, and it holds in every balance
-abbrev pub pairHolds : ℕ → ℕ → List ℕ → Side → Side → Bool
-pairHolds rule n loads p q = not (eqb rule 3) && every n (balanceHolds loads p q)
+-- the rule holds at every figure
+abbrev pub allHold : ℕ → ℕ → List ℕ → List ℕ → Side → Side → Bool
+allHold rule n rows loads p q = cond (eqb rule 3) (every (p .node .arity) (argumentHolds rows p q)) (every n (balanceHolds loads p q))
+
+-- the pair is live, and breaks the rule
+abbrev pub breaksPair : ℕ → Setting → Side → Side → Bool
+breaksPair rule S p q = livePair (S .rows) (S .loads) (S .bounds) (S .n) p q && not (allHold rule (S .n) (S .rows) (S .loads) p q)
 
 -- ---- what the lists have of sides that were read
 
@@ -121,5 +173,13 @@ abbrev pub ArgumentRows : List ℕ → Side → Side → ℕ → Type 0
 ArgumentRows rows p q n = (n < 8) × HasRow rows (getD (p .node .args) n 0) × HasRow rows (getD (q .node .args) n 0)
 
 -- what rule 4 compares in balance k
+abbrev pub HalfFour : List ℕ → ℕ → ℕ → ℕ → ℕ → ℕ → Type 0
+HalfFour loads i l j r k = Half loads i k × Half loads l k × Half loads j k × Half loads r k
+
 abbrev pub HalfPair : List ℕ → Side → Side → ℕ → Type 0
-HalfPair loads p q k = Half loads (p .number) k × Half loads (q .number) k × Half loads (p .node .left) k × Half loads (q .node .left) k
+HalfPair loads p q k = HalfFour loads (p .number) (p .node .left) (q .number) (q .node .left) k
+
+-- what the rule compares: rows of all arguments, or loads in n balances
+abbrev pub Figures : ℕ → ℕ → List ℕ → List ℕ → Side → Side → Type 0
+Figures rule n rows loads p q =
+    (eqb rule 3 ≡ true → (m : ℕ) → m < p .node .arity → ArgumentRows rows p q m) × (eqb rule 3 ≡ false → (k : ℕ) → k < n → HalfPair loads p q k)

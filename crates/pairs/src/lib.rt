@@ -2,16 +2,16 @@
 // Promises the model's pairs over the array that the file stands for and the table that the checker's own lists stand for: rows of
 // marks, loads of all nodes in all balances, bounds. Depends on loads, arrays, records, marks, wire, model and laws.
 ghost use mathlib.Core.Path.{_≡_};
-ghost use mathlib.Core.Bool.{true, false};
+ghost use mathlib.Core.Bool.{true, false, not, _&&_};
 ghost use Prim.Native.Nat.{ℕ, _<_, _≤_};
 ghost use lib.ListN.{length};
 ghost use lib.Dec.{eqb};
 ghost use Rattle.laws.specs.Search.{every};
 ghost use Rattle.model.specs.Tree.{isAgent};
 ghost use Rattle.records.specs.Record.{nodeOf, arrayOf};
-ghost use Rattle.arrays.specs.File.{IsRead};
-ghost use Rattle.pairs.specs.Pairs.{listTable, Lists, HalfRow, Weighed, placed, pairsOf, SmallFigure, figuresOf, takenOf};
-ghost use Rattle.pairs.specs.Pairs.{bearsBoth, livePair, argumentHolds, balanceHolds, holdsAt, pairHolds, NameRow, ArgumentRows, HalfPair};
+ghost use Rattle.pairs.specs.Pairs.{listTable, setting, Given, HalfRow, Screened, placed, pairsOf, SmallFigure, figuresOf, goneOf};
+ghost use Rattle.pairs.specs.Pairs.{bearsBoth, meets, livePair, argumentHolds, leavesRoom, holdsAt, allHold};
+ghost use Rattle.pairs.specs.Pairs.{NameRow, ArgumentRows, HalfFour, HalfPair, Figures};
 use records::Record;
 use records::Trailer;
 
@@ -41,11 +41,10 @@ fn fit_both(balances: usize, loads: &[u32], bounds: &[u32], i: usize, j: usize) 
     fits
 }
 
-// Receiver p and q are a live pair.
-fn live(balances: usize, rows: &[u64], loads: &[u32], bounds: &[u32], p: Side, q: Side) -> bool
-    requires { ⌜ (balances ≤ length (now bounds)) × HalfRow (now loads) balances (p .number) × HalfRow (now loads) balances (q .number) ⌝ }
+// q sends, by p's arity, on a channel that may be p's.
+fn meet(rows: &[u64], p: Side, q: Side) -> bool
     requires { ⌜ (isAgent (nodeOf (p .node)) ≡ true) × NameRow (now rows) p × NameRow (now rows) q ⌝ }
-    ensures { λ b. ⌜ b ≡ livePair (now (rows .entry)) (now (loads .entry)) (now (bounds .entry)) balances p q ⌝ }
+    ensures { λ b. ⌜ b ≡ meets (now (rows .entry)) p q ⌝ }
 {
     if !records::sends(q.node) {
         return false;
@@ -53,14 +52,11 @@ fn live(balances: usize, rows: &[u64], loads: &[u32], bounds: &[u32], p: Side, q
     if p.node.arity != q.node.arity {
         return false;
     }
-    if !marks::shares(rows, p.node.name, q.node.name) {
-        return false;
-    }
-    fit_both(balances, loads, bounds, p.number, q.number)
+    marks::shares(rows, p.node.name, rows, q.node.name)
 }
 
 // How many figures the rule looks at: none where the node is no receiver.
-fn figures(rule: u8, balances: usize, r: Record) -> usize
+pub fn figures(rule: u8, balances: usize, r: Record) -> usize
     ensures { λ n. ⌜ n ≡ figuresOf rule balances r ⌝ }
 {
     if !records::receives(r) {
@@ -87,49 +83,88 @@ fn argument_holds(rows: &[u64], p: Side, q: Side, n: usize) -> bool
     )
 }
 
-// What goes of the receiver's weight: an in's goes whole, a resource's stays.
-fn taken(r: Record, weight: u32) -> u32
-    ensures { λ n. ⌜ (n ≡ takenOf r weight) × (n ≤ weight) ⌝ }
+// What goes of a receiver's weight: an in's goes whole, a resource's stays.
+pub fn gone(stays: bool, weight: u32) -> u32
+    ensures { λ n. ⌜ (n ≡ goneOf stays weight) × (n ≤ weight) ⌝ }
 {
-    if records::is_resource(r) {
+    if stays {
         return 0;
     }
     weight
 }
 
-// Rule 4 at balance k: the loads of both continuations are within what goes.
-fn balance_holds(loads: &[u32], p: Side, q: Side, k: usize) -> bool
-    requires { ⌜ HalfPair (now loads) p q k ⌝ }
-    ensures { λ b. ⌜ b ≡ balanceHolds (now (loads .entry)) p q k ⌝ }
+// Rule 4 at balance k, for receiver i with continuation l and sender j with continuation r: the loads of both continuations are within what goes.
+fn balance_holds(
+    loads: &[u32],
+    stays: bool,
+    i: usize,
+    l: usize,
+    j: usize,
+    r: usize,
+    k: usize,
+) -> bool
+    requires { ⌜ HalfFour (now loads) i l j r k ⌝ }
+    ensures { λ b. ⌜ b ≡ leavesRoom (now (loads .entry)) stays i l j r k ⌝ }
 {
-    let left = loads::load_at(loads, p.node.left, k) + loads::load_at(loads, q.node.left, k);
-    let sender = loads::load_at(loads, q.number, k);
-    left <= sender + taken(p.node, loads::load_at(loads, p.number, k))
+    let left = loads::load_at(loads, l, k) + loads::load_at(loads, r, k);
+    let sender = loads::load_at(loads, j, k);
+    left <= sender + gone(stays, loads::load_at(loads, i, k))
 }
 
 // Rule 4 in every balance. The loop has no way out, so that several balances are compared at once.
-fn balances_hold(balances: usize, loads: &[u32], p: Side, q: Side) -> bool
-    requires { ⌜ ((k : ℕ) → k < balances → HalfPair (now loads) p q k) ⌝ }
-    ensures { λ b. ⌜ b ≡ every balances (balanceHolds (now (loads .entry)) p q) ⌝ }
+fn balances_hold(
+    balances: usize,
+    loads: &[u32],
+    stays: bool,
+    i: usize,
+    l: usize,
+    j: usize,
+    r: usize,
+) -> bool
+    requires { ⌜ ((k : ℕ) → k < balances → HalfFour (now loads) i l j r k) ⌝ }
+    ensures { λ b. ⌜ b ≡ every balances (leavesRoom (now (loads .entry)) stays i l j r) ⌝ }
 {
     let mut holds = true;
     let mut k: usize = 0;
     while k < balances {
-        holds = holds & balance_holds(loads, p, q, k);
+        holds = holds & balance_holds(loads, stays, i, l, j, r, k);
         k += 1;
     }
     holds
 }
 
-// The live pair p, q needs no search: rule 4 holds in every balance. Rule 3 is searched argument by argument.
-fn pair_holds(rule: u8, balances: usize, loads: &[u32], p: Side, q: Side) -> bool
-    requires { ⌜ ((k : ℕ) → k < balances → HalfPair (now loads) p q k) ⌝ }
-    ensures { λ b. ⌜ b ≡ pairHolds rule balances (now (loads .entry)) p q ⌝ }
+// Rule 3 at every argument.
+fn arguments_hold(rows: &[u64], p: Side, q: Side) -> bool
+    requires { ⌜ ((m : ℕ) → m < p .node .arity → ArgumentRows (now rows) p q m) ⌝ }
+    ensures { λ b. ⌜ b ≡ every (p .node .arity) (argumentHolds (now (rows .entry)) p q) ⌝ }
+{
+    let arity = p.node.arity;
+    let mut holds = true;
+    let mut n: usize = 0;
+    while n < arity {
+        holds = holds & argument_holds(rows, p, q, n);
+        n += 1;
+    }
+    holds
+}
+
+// The rule holds at every figure of the pair.
+fn all_hold(rule: u8, balances: usize, rows: &[u64], loads: &[u32], p: Side, q: Side) -> bool
+    requires { ⌜ Figures rule balances (now rows) (now loads) p q ⌝ }
+    ensures { λ b. ⌜ b ≡ allHold rule balances (now (rows .entry)) (now (loads .entry)) p q ⌝ }
 {
     if rule == 3 {
-        return false;
+        return arguments_hold(rows, p, q);
     }
-    balances_hold(balances, loads, p, q)
+    balances_hold(
+        balances,
+        loads,
+        records::is_resource(p.node),
+        p.number,
+        p.node.left,
+        q.number,
+        q.node.left,
+    )
 }
 
 // The rule holds at figure n of the live pair p, q.
@@ -140,10 +175,44 @@ fn figure_holds(rule: u8, rows: &[u64], loads: &[u32], p: Side, q: Side, n: usiz
     if rule == 3 {
         return argument_holds(rows, p, q, n);
     }
-    balance_holds(loads, p, q, n)
+    balance_holds(
+        loads,
+        records::is_resource(p.node),
+        p.number,
+        p.node.left,
+        q.number,
+        q.node.left,
+        n,
+    )
 }
 
-// Rule 3 or 4: the first live pair that breaks it, lowest receiver, then lowest sender, then the last figure.
+// The pair is live, and breaks the rule. Balances that would end its life are looked at last.
+pub fn breaks(
+    rule: u8,
+    balances: usize,
+    rows: &[u64],
+    loads: &[u32],
+    bounds: &[u32],
+    p: Side,
+    q: Side,
+) -> bool
+    requires { ⌜ (balances ≤ length (now bounds)) × HalfRow (now loads) balances (p .number) × HalfRow (now loads) balances (q .number) ⌝ }
+    requires { ⌜ (isAgent (nodeOf (p .node)) ≡ true) × NameRow (now rows) p × NameRow (now rows) q ⌝ }
+    requires { ⌜ (meets (now rows) p q ≡ true → Figures rule balances (now rows) (now loads) p q) ⌝ }
+    ensures { λ b. ⌜ b ≡ livePair (now (rows .entry)) (now (loads .entry)) (now (bounds .entry)) balances p q
+        && not (allHold rule balances (now (rows .entry)) (now (loads .entry)) p q) ⌝ }
+{
+    if !meet(rows, p, q) {
+        return false;
+    }
+    if all_hold(rule, balances, rows, loads, p, q) {
+        return false;
+    }
+    fit_both(balances, loads, bounds, p.number, q.number)
+}
+
+// Rule 3 or 4: the first live pair that breaks it, lowest receiver, then lowest sender, then the last figure. Receivers that the list of suspects
+// leaves out are passed over.
 pub fn first_pair(
     rule: u8,
     file: &[u8],
@@ -152,8 +221,10 @@ pub fn first_pair(
     rows: &[u64],
     loads: &[u32],
     bounds: &[u32],
+    suspects: &[u8],
 ) -> Place
-    requires { ⌜ IsRead (now file) t × Lists balances (now rows) (now bounds) × Weighed (now loads) (arrayOf (now file) t) balances ⌝ }
+    requires { ⌜ Given (setting (now file) t balances (now rows) (now loads) (now bounds)) × (length (now suspects) ≡ 1024)
+        × Screened rule (arrayOf (now file) t) (listTable (now rows) (now loads) (now bounds) balances) (now suspects) ⌝ }
     ensures { λ r. ⌜ placed rule r
         ≡ pairsOf rule (arrayOf (now (file .entry)) t) (listTable (now (rows .entry)) (now (loads .entry)) (now (bounds .entry)) balances) ⌝ }
     ensures { λ r. ⌜ SmallFigure r ⌝ }
@@ -161,6 +232,9 @@ pub fn first_pair(
     let nodes = t.nodes;
     let mut answer = Place::Nowhere;
     'receiver: for i in 0..nodes {
+        if suspects[i] == 0 {
+            continue 'receiver;
+        }
         let p = Side {
             number: i,
             node: records::node_at(file, t, i),
@@ -174,10 +248,7 @@ pub fn first_pair(
                 number: j,
                 node: records::node_at(file, t, j),
             };
-            if !live(balances, rows, loads, bounds, p, q) {
-                continue 'sender;
-            }
-            if pair_holds(rule, balances, loads, p, q) {
+            if !breaks(rule, balances, rows, loads, bounds, p, q) {
                 continue 'sender;
             }
             // In rule 3 the last figure is an argument, in rule 4 a balance.

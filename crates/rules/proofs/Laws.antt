@@ -3,7 +3,7 @@ use Prim.Native.Nat.{ℕ, _+_, _<_}
 use native.Mathlib.Nat.{le-of-suc-le-suc}
 use native.Mathlib.Numerals.{add-one}
 use native.Mathlib.Omega.{arith}
-use mathlib.Core.Path.{_≡_, refl, sym, ap, _∙_}
+use mathlib.Core.Path.{_≡_, refl, sym, ap, _∙_, subst}
 use mathlib.Core.Bool.{Bool, true, false, false≢true, true≢false}
 use mathlib.Core.List.{List, [], _∷_}
 use lib.Dec.{leb}
@@ -32,7 +32,7 @@ use Rattle.layout.specs.Table.{balanceAt, rowBit, tableOf, IsTable}
 use Rattle.layout.proofs.Laws.{claims-lie}
 use Rattle.claims.proofs.Laws.{claims-named, sets-agree, claims-rise}
 use Rattle.loads.specs.Loads.{loadIn, AllLoads}
-use Rattle.loads.proofs.Laws.{half-load}
+use Rattle.loads.proofs.Laws.{small-load, half-load}
 use Rattle.pairs.specs.declared.Place.the-variants.{At}
 use Rattle.pairs.specs.Pairs.{listTable, Weighed, atPair, pairsOf, placed}
 use Rattle.rules.specs.declared.Ruling.{Ruling}
@@ -108,13 +108,13 @@ module _ {f : List ℕ} {t : Trailer} {s : List ℕ} {z : Sizes} {rows loads bou
   unfolding check2
   rule-two =
       first-same (z .balances) _ _ (λ k h.
-      ap (λ (x : ℕ). test (leb x (getD bounds k 0)) (at 2 (k ∷ []))) (all .weighed .weighs 0 k (all .read .formed .some) h))
+      ap (λ (x : ℕ). test (leb x (getD bounds k 0)) (at 2 (k ∷ []))) (all .given .weighed .weighs 0 k (all .given .read .formed .some) h))
 
   pub rule-three : check3 a L ≡ check3 a (claimed L s z)
-  rule-three = check3-alike a (all .read .formed) L (claimed L s z) same
+  rule-three = check3-alike a (all .given .read .formed) L (claimed L s z) same
 
   pub rule-four : check4 a L ≡ check4 a (claimed L s z)
-  rule-four = check4-alike a (all .read .formed) L (claimed L s z) same
+  rule-four = check4-alike a (all .given .read .formed) L (claimed L s z) same
 
   -- a set is met where each of its claims holds alone
   pub rule-five : ruleBelow (z .claims) 5 (setHolds (tableOf s z) (λ e. claimHolds loads bounds (tableOf s z .claim e))) ≡ check5 a (claimed L s z)
@@ -162,6 +162,8 @@ module _ (f : List ℕ) (t : Trailer) (s : List ℕ) (z : Sizes) (read : IsRead 
         let few = table .laid .fewBalances in
         half-load b ok ((T .balance k) .weight) (λ j. le-of-suc-le-suc (u16-small s bytes _)) loads manyLoads i k h (omega arith) (weighs i k h l);
     weighs = λ i k h l. weighs i k h l ∙ load-alike b ok _ _ (λ j e. sym (weight-is k j l e)) i h;
+    small = λ i k h l. small-load b ok ((T .balance k) .weight) (λ j. le-of-suc-le-suc (u16-small s bytes _)) loads i k h (weighs i k h l);
+    light = λ i k e l. subst (λ x. x < 65536) (sym (weight-is k i l e)) (u16-small s bytes _);
   }
 
   -- a claim names an agent and a balance
@@ -185,9 +187,11 @@ module _ (f : List ℕ) (t : Trailer) (s : List ℕ) (z : Sizes) (read : IsRead 
 
   pub filled : AllListed f t s z rows loads bounds
   filled = record {
-    read = read;
-    lists = record { few = table .laid .fewBalances; manyRows = manyRows; manyBounds = manyBounds };
-    weighed = weighed;
+    given = record {
+      read = read;
+      lists = record { few = table .laid .fewBalances; manyRows = manyRows; manyBounds = manyBounds };
+      weighed = weighed;
+    };
     claims = claims;
     sets = sets-agree T (table .sets);
   }

@@ -10,12 +10,10 @@ use Rattle.model.specs.Tree.{Array, isNew}
 use Rattle.model.specs.declared.Claim.{Claim}
 use Rattle.model.specs.Rules.{Table, together, SetsAgree, Rising, Verdict, at, check3, check4, check5}
 use Rattle.records.specs.declared.Trailer.{Trailer}
-use Rattle.records.specs.Record.{arrayOf}
-use Rattle.arrays.specs.File.{IsRead}
 use Rattle.layout.specs.declared.Sizes.{Sizes}
 use Rattle.layout.specs.Table.{tableOf, ClaimsLie}
 use Rattle.loads.specs.Loads.{loadIn, Half}
-use Rattle.pairs.specs.Pairs.{Lists, Weighed}
+use Rattle.pairs.specs.Pairs.{setting, Given}
 use Rattle.rules.specs.declared.Ruling.{Ruling}
 use Rattle.rules.specs.declared.Ruling.the-variants.{Held, Rule1, Rule2, Rule3, Rule4, Rule5}
 
@@ -75,9 +73,7 @@ pub record ClaimsListed (s : List ℕ) (z : Sizes) (loads bounds : List ℕ) : T
 -- ---- all rules: over a file that was read, lists that stand for a table, and the claims of a table file
 
 pub record AllListed (f : List ℕ) (t : Trailer) (s : List ℕ) (z : Sizes) (rows loads bounds : List ℕ) : Type 0 where
-  pub read : IsRead f t
-  pub lists : Lists (z .balances) rows bounds
-  pub weighed : Weighed loads (arrayOf f t) (z .balances)
+  pub given : Given (setting f t (z .balances) rows loads bounds)
   pub claims : ClaimsListed s z loads bounds
   pub sets : SetsAgree (tableOf s z)
 

@@ -1,5 +1,5 @@
 // The five rules in number order, over an array file and a table file that were read.
-// Promises the model's verdict over the array and the table that the bytes stand for. Depends on pairs (rules 3 and 4), flows
+// Promises the model's verdict over the array and the table that the bytes stand for. Depends on filter and pairs (rules 3 and 4), flows
 // and loads (the checker's own lists), claims (a set's first), layout, frees (the names that news open), arrays, records, marks, wire, model and laws.
 // The lists take 106,592 bytes of stack.
 ghost use mathlib.Core.Path.{_≡_};
@@ -10,7 +10,7 @@ ghost use Rattle.records.specs.Record.{arrayOf, RecordsFit};
 ghost use Rattle.arrays.specs.File.{IsRead};
 ghost use Rattle.wire.specs.Numbers.{u32At};
 ghost use Rattle.layout.specs.Table.{balanceAt, claimAt, tableOf, IsTable};
-ghost use Rattle.pairs.specs.Pairs.{listTable, Lists, HalfRow, Weighed};
+ghost use Rattle.pairs.specs.Pairs.{listTable, setting, Given, HalfRow};
 ghost use Rattle.rules.specs.Ruling.{ruled, isHeld, from3, ruleBelow, ownMarked, rootFits, claimHolds, setHolds, ClaimListed, ClaimsListed};
 ghost use Rattle.rules.specs.Ruling.{AllListed, claimed};
 use layout::Sizes;
@@ -82,10 +82,11 @@ fn third_rule(
     loads: &[u32],
     bounds: &[u32],
 ) -> Ruling
-    requires { ⌜ IsRead (now file) t × Lists balances (now rows) (now bounds) × Weighed (now loads) (arrayOf (now file) t) balances ⌝ }
+    requires { ⌜ Given (setting (now file) t balances (now rows) (now loads) (now bounds)) ⌝ }
     ensures { λ r. ⌜ ruled r ≡ M.check3 (arrayOf (now (file .entry)) t) (listTable (now (rows .entry)) (now (loads .entry)) (now (bounds .entry)) balances) ⌝ }
 {
-    match pairs::first_pair(3, file, t, balances, rows, loads, bounds) {
+    let suspects = filter::suspects(3, file, t, balances, rows, loads, bounds);
+    match pairs::first_pair(3, file, t, balances, rows, loads, bounds, &suspects) {
         Place::Nowhere => Ruling::Held,
         Place::At(p, q, n) => Ruling::Rule3(p, q, n + 1),
     }
@@ -100,10 +101,11 @@ fn fourth_rule(
     loads: &[u32],
     bounds: &[u32],
 ) -> Ruling
-    requires { ⌜ IsRead (now file) t × Lists balances (now rows) (now bounds) × Weighed (now loads) (arrayOf (now file) t) balances ⌝ }
+    requires { ⌜ Given (setting (now file) t balances (now rows) (now loads) (now bounds)) ⌝ }
     ensures { λ r. ⌜ ruled r ≡ M.check4 (arrayOf (now (file .entry)) t) (listTable (now (rows .entry)) (now (loads .entry)) (now (bounds .entry)) balances) ⌝ }
 {
-    match pairs::first_pair(4, file, t, balances, rows, loads, bounds) {
+    let suspects = filter::suspects(4, file, t, balances, rows, loads, bounds);
+    match pairs::first_pair(4, file, t, balances, rows, loads, bounds, &suspects) {
         Place::Nowhere => Ruling::Held,
         Place::At(p, q, n) => Ruling::Rule4(p, q, n),
     }

@@ -6,8 +6,8 @@ use Rattle.marks.proofs.shares.Tie as tie
 
 returns : tie.Need-returns
 returns c =
-    let x = c .before .before .before .before .before .args in
-    cc (share-words (x .rows .now) (x .u) (x .v))
+    let x = c .before .before .before .before .before .before .args in
+    cc (share-words (x .one .now) (x .u) (x .other .now) (x .v))
 
 pub shares-spec : {M : Type 1} → statement M
 shares-spec = tie.close (tie.spec (λ c κs. search needs) (λ c κs. search needs) (λ c κs. search needs) (λ c κs. search needs) returns)

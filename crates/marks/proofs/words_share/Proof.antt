@@ -10,10 +10,10 @@ use Rattle.marks.proofs.words_share.Tie as tie
 returns : tie.Need-returns
 unfolding wordsShare
 returns c =
-    let x = c .before .before .before .args in
-    let one = getD (x .rows .now) (wordAt (x .u) (x .w)) 0 in
-    let other = getD (x .rows .now) (wordAt (x .v) (x .w)) 0 in
-    let known = c .before .before .shared-slice-known .given (wordAt (x .u) (x .w)) in
+    let x = c .before .before .before .before .args in
+    let one = getD (x .one .now) (wordAt (x .u) (x .w)) 0 in
+    let other = getD (x .other .now) (wordAt (x .v) (x .w)) 0 in
+    let known = c .before .before .before .shared-slice-known .given (wordAt (x .u) (x .w)) in
     rw (c .before .word-at .ensures, c .word-at2 .ensures) (and-some 64 one other (omega (arith, known)))
 
 pub words-share-spec : {M : Type 1} → statement M

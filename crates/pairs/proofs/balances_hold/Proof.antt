@@ -4,17 +4,17 @@ use mathlib.Core.Path.{_≡_, sym}
 use denote.Ref.{now}
 use Rattle.laws.specs.Search.{every}
 use Rattle.laws.proofs.Search.{every-zero, every-step}
-use Rattle.pairs.specs.Pairs.{balanceHolds}
+use Rattle.pairs.specs.Pairs.{leavesRoom}
 use borrow.Author.Needs.{needs}
 use native.Mathlib.Omega.{arith}
 use Rattle.pairs.proofs.balances_hold.Statement.{statement}
 use Rattle.pairs.proofs.balances_hold.Tie as tie
 
 abbrev Inv-loop : tie.InvT-loop
-Inv-loop balances loads p q holds₀ k₀ holds k = (k ≤ balances) × (holds ≡ every k (balanceHolds loads p q))
+Inv-loop balances loads stays i l j r holds₀ k₀ holds k = (k ≤ balances) × (holds ≡ every k (leavesRoom loads stays i l j r))
 
 abbrev μ-loop : tie.MeasureT-loop
-μ-loop balances loads p q holds₀ k₀ holds k = balances - k
+μ-loop balances loads stays i l j r holds₀ k₀ holds k = balances - k
 
 loop-holds : tie.Need-loop-holds Inv-loop μ-loop
 loop-holds c = (search needs, sym (every-zero _))
@@ -26,7 +26,7 @@ loop-again : tie.Need-loop-again Inv-loop μ-loop
 loop-again c =
     let l = c .before .before .loop in
     let x = c .before .before .before .before .args in
-    (search needs, rw (l .inv .1, c .balance-holds .ensures) (sym (every-step (balanceHolds (now (x .loads)) (x .p) (x .q)) (l .k))))
+    (search needs, rw (l .inv .1, c .balance-holds .ensures) (sym (every-step (leavesRoom (now (x .loads)) (x .stays) (x .i) (x .l) (x .j) (x .r)) (l .k))))
 
 returns : tie.Need-returns Inv-loop μ-loop
 returns c =

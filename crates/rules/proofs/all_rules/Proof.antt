@@ -35,7 +35,7 @@ two c = c .second-rule .ensures ∙ rule-two (begun (first c) .pre)
 first-rule-requires : tie.Need-first-rule-requires
 first-rule-requires c κs =
     let p = c .before .before .before .before .before .pre in
-    (omega (arith, p .read .fills), p .read .formed .fewNames, p .lists .manyRows)
+    (omega (arith, p .given .read .fills), p .given .read .formed .fewNames, p .given .lists .manyRows)
 
 returns : tie.Need-returns
 unfolding verdict
@@ -44,7 +44,7 @@ returns c = ends _ _ (c .before .before .first-rule .result) (one (c .before .be
 second-rule-requires : tie.Need-second-rule-requires
 second-rule-requires c κs =
     let p = begun (c .before .before) .pre in
-    (omega (arith, p .lists .few, p .lists .manyBounds), p .weighed .half 0 (p .read .formed .some))
+    (omega (arith, p .given .lists .few, p .given .lists .manyBounds), p .given .weighed .half 0 (p .given .read .formed .some))
 
 returns-2 : tie.Need-returns-2
 unfolding verdict

@@ -10,12 +10,12 @@ use native.Mathlib.Omega.{arith}
 use Rattle.rules.proofs.third_rule.Statement.{statement}
 use Rattle.rules.proofs.third_rule.Tie as tie
 
-found : (c : tie.After-first-pair) → let x = c .before .before .before .before .before .args in
+found : (c : tie.After-first-pair) → let x = c .before .before .before .before .before .before .before .args in
     placed 3 (c .first-pair .result) ≡ check3 (arrayOf (now (x .file)) (x .t)) (listTable (now (x .rows)) (now (x .loads)) (now (x .bounds)) (x .balances))
 found c = c .first-pair .ensures .0 ∙ pairs-three _ _
 
-add-t12 : tie.Need-add-t12
-add-t12 c =
+add-t16 : tie.Need-add-t16
+add-t16 c =
     let small = subst SmallFigure (c .before .p .given .1) (c .before .before .before .first-pair .ensures .1) in
     record { fits = omega arith }
 
@@ -26,4 +26,7 @@ returns-2 : tie.Need-returns-2
 returns-2 c = place-three _ _ _ ∙ ap (placed 3) (sym (c .before .p .given .1)) ∙ found (c .before .before .before)
 
 pub third-rule-spec : {M : Type 1} → statement M
-third-rule-spec = tie.close (tie.spec (λ c κs. search needs) (λ c. search needs) (λ c. search needs) add-t12 returns returns-2)
+third-rule-spec =
+    tie.close
+    (tie.spec
+    (λ c κs. search needs) (λ c. search needs) (λ c κs. search needs) (λ c. search needs) (λ c. search needs) add-t16 returns returns-2)

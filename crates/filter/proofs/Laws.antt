@@ -1,0 +1,127 @@
+-- A set that passes has no sender that breaks the rule with the receiver.
+use Prim.Native.Nat.{ℕ, _+_, _≤_, _<_}
+use native.Mathlib.Omega.{arith}
+use mathlib.Core.Path.{_≡_, refl, sym, ap, _∙_}
+use mathlib.Core.Logic.{inl, inr}
+use mathlib.Core.Bool.{Bool, true, false, cond, not, _&&_, true≢false}
+use mathlib.Core.List.{List}
+use lib.Dec.{eqb, leb, ltb}
+use lib.ListN.{length, getD, set, replicate, length-replicate, getD-replicate}
+use lib.Seq.{getD-set-same, getD-set-other}
+use borrow.Author.Tests.{eqb-true, eqb-false, leb-true, le-leb, ltb-true}
+use Rattle.laws.specs.Search.{clear, every}
+use Rattle.laws.proofs.Search.{decided, and-join, every-true, true-every}
+use Rattle.laws.proofs.Lists.{getD-zeros}
+use Rattle.marks.specs.Marks.{marked, share}
+use Rattle.marks.proofs.Laws.{inside-trans, share-inside}
+use Rattle.model.specs.Tree.{Array, isAgent}
+use Rattle.model.specs.Memory.{isOut}
+use Rattle.model.specs.Rules.{Table}
+use Rattle.records.specs.declared.Record.{Record}
+use Rattle.records.specs.Record.{nodeOf}
+use Rattle.records.specs.Kinds.{isReceiver}
+use Rattle.records.proofs.Laws.{node-read}
+use Rattle.records.proofs.KindLaws.{sender-is}
+use Rattle.loads.specs.Loads.{entryIndex, loadIn}
+use Rattle.pairs.specs.declared.Side.{Side}
+use Rattle.pairs.specs.Pairs.{Setting, Given, Held, arrayIn, tableIn, pairsAt, Screened, figuresOf, allHold, breaksPair, takenOf}
+use Rattle.pairs.proofs.Laws.{alive, live-near, arities, live-shares}
+use Rattle.pairs.proofs.Search.{sound-row}
+use Rattle.senders.specs.Sets.{setOf, arityMark, needOf, Family, family, Room, Covers, Collected, Linked}
+use Rattle.filter.specs.Filter.{mayCome, figuresPass, SetSound, Sound, Kept}
+
+-- a pair that is not live, or at which the rule holds, breaks nothing
+unbroken : (rule : ℕ) (S : Setting) (p q : Side) → (alive S p q ≡ true → allHold rule (S .n) (S .rows) (S .loads) p q ≡ true) → breaksPair rule S p q ≡ false
+unbroken rule S p q f = elim (decided (alive S p q)) [ inl e ↦ rw (e, f e) | inr e ↦ rw e ]
+
+module _ (rule : ℕ) {S : Setting} (given : Given S) {p : Side} (hp : Held S p) (rp : isReceiver (nodeOf (p .node)) ≡ true)
+    (F : Family) (g : ℕ) (q : Side) (hq : Held S q) (sends : isOut (nodeOf (q .node)) ≡ true) (covers : Covers rule S F g q) where
+  -- no sender of the set may come
+  pub far-set : mayCome (F .unions) (F .arities) (S .rows) g p ≡ false → breaksPair rule S p q ≡ false
+  far-set e =
+      unbroken rule S p q (λ l.
+      absurd (true≢false (sym (and-join (comes l) (share-inside (S .rows) (q .node .name) (F .unions) g (S .rows) (p .node .name) (covers .channel)
+      (live-shares given hp rp hq (live-near S p q l)))) ∙ e)))
+    where
+      comes : alive S p q ≡ true → marked (F .arities) 0 (arityMark g (p .node .arity)) ≡ true
+      comes l = rw (arities given hp rp hq (live-near S p q l)) (covers .arity)
+
+  -- the rule holds beside all senders of the set together
+  pub whole-set : figuresPass rule (S .n) (F .needs) (F .unions) (S .rows) (S .loads) g p ≡ true → breaksPair rule S p q ≡ false
+  whole-set e =
+      unbroken rule S p q (λ l.
+      elim (decided (eqb rule 3)) [
+        | inl three ↦
+            rw three (true-every _ _ (λ m h.
+            inside-trans _ _ _ _ _ _ (covers .sent three m (rw (← arities given hp rp hq (live-near S p q l)) h)) (every-true _ _ (rw three at e) m h)))
+        | inr four ↦ rw four (true-every _ _ (λ k h. le-leb _ _ (met k h (covers .needs four k h) (leb-true _ _ (every-true _ _ (rw four at e) k h)))))
+      ])
+    where
+      met : (k : ℕ) → k < S .n → needOf (S .loads) q k ≤ loadIn (F .needs) g k
+          → loadIn (S .loads) (p .node .left) k + loadIn (F .needs) g k ≤ 65536 + takenOf (p .node) (loadIn (S .loads) (p .number) k)
+          → loadIn (S .loads) (p .node .left) k + loadIn (S .loads) (q .node .left) k
+          ≤ loadIn (S .loads) (q .number) k + takenOf (p .node) (loadIn (S .loads) (p .number) k)
+      met k h need give =
+          let light = given .weighed .light (q .number) k (ap isAgent (node-read (S .f) (S .t) (q .number) (q .node) (hq .below) (hq .is)) ∙ sender-is (q .node) sends .0) h in
+          omega (arith, need, give, light)
+
+-- ---- set after set
+
+module _ (rule : ℕ) (S : Setting) (F : Family) (links : List ℕ) (deep : Bool) (count : ℕ) (p : Side) where
+  -- the sets below n, whichever sets the lists stand for
+  abbrev pub SetsSound : ℕ → Type 0
+  SetsSound n = (sets : List ℕ) → Collected rule S F sets count (S .t .nodes) → (deep ≡ true → Linked (S .f) (S .t) sets count links)
+      → (g : ℕ) → g < n → SetSound rule S sets count p g
+
+  pub sets-more : (n : ℕ) → SetsSound n
+      → ((sets : List ℕ) → Collected rule S F sets count (S .t .nodes) → (deep ≡ true → Linked (S .f) (S .t) sets count links) → SetSound rule S sets count p n)
+      → SetsSound (n + 1)
+  sets-more n before here sets all linked g h =
+      elim (decided (eqb g n)) [
+        | inl e ↦ rw (eqb-true g n e) (here sets all linked)
+        | inr e ↦ before sets all linked g (omega (arith, h, eqb-false g n e))
+      ]
+
+  -- each sender is in one of the sets
+  pub sets-done : Kept rule S F links deep count → SetsSound count → Sound rule S p
+  sets-done k all q hq sends =
+      all (k .sets) (k .collected) (k .linked) (setOf (k .sets) count (q .number)) (inside (getD (k .sets) (q .number) 0) (k .some)) q hq sends refl
+    where
+      inside : (x : ℕ) → 0 < count → cond (ltb x count) x 0 < count
+      inside x h = elim (decided (ltb x count)) [ inl e ↦ rw e (ltb-true x count e) | inr e ↦ rw e h ]
+
+-- ---- a node
+
+-- only a receiver has figures
+pub receives-figures : (rule n : ℕ) (r : Record) → (figuresOf rule n r ≡ 0 → ⊥) → isReceiver (nodeOf r) ≡ true
+receives-figures rule n r some = elim (decided (isReceiver (nodeOf r))) [ inl e ↦ e | inr e ↦ absurd (some (rw e)) ]
+
+-- no sender breaks the rule with it, and nothing else does
+pub sound-node : (rule : ℕ) {S : Setting} {p : Side} → Given S → Held S p → isReceiver (nodeOf (p .node)) ≡ true → Sound rule S p
+    → pairsAt rule (arrayIn S) (tableIn S) (p .number) ≡ clear
+sound-node rule {S} {p} g hp rp sound =
+    sound-row rule g hp rp (λ q hq. elim (decided (isOut (nodeOf (q .node)))) [ inl e ↦ sound q hq e | inr e ↦ rw e ])
+
+-- a list of suspects with another entry at i
+pub screened-set : (rule : ℕ) (a : Array) (t : Table) (suspects : List ℕ) (i x : ℕ) → i < length suspects → Screened rule a t suspects
+    → (x ≡ 0 → pairsAt rule a t i ≡ clear) → Screened rule a t (set suspects i x)
+screened-set rule a t suspects i x fits before here j h e =
+    elim (decided (eqb j i)) [
+      | inl same ↦
+          let k = eqb-true j i same in
+          rw k (here (sym (getD-set-same suspects i x 0 fits) ∙ rw k at e))
+      | inr other ↦ before j h (sym (getD-set-other suspects i j x 0 (eqb-false j i other)) ∙ e)
+    ]
+
+-- sets without a sender
+pub empty-room : Room (family (replicate 768 0) (replicate 1152 0) (replicate 8 0))
+empty-room = record {
+  needs = length-replicate {A = ℕ} 768 0;
+  unions = length-replicate {A = ℕ} 1152 0;
+  arities = length-replicate {A = ℕ} 8 0;
+  half = λ g k. rw (getD-zeros 768 (entryIndex g k)) (omega arith);
+}
+
+-- at first every node is a suspect
+pub all-suspects : (rule : ℕ) (a : Array) (t : Table) → a .size ≤ 1024 → Screened rule a t (replicate 1024 1)
+all-suspects rule a t few i h e = absurd (omega (arith, sym (getD-replicate 1024 i 1 0 (omega arith)) ∙ e))

@@ -1,0 +1,16 @@
+-- Where the senders are not looked at one by one, nothing is asked of the links.
+use mathlib.Core.Path.{_≡_, sym, _∙_}
+use mathlib.Core.Bool.{true≢false}
+use borrow.Author.Tests.{not-true}
+use borrow.Author.Needs.{needs}
+use Rattle.filter.proofs.link_if.Statement.{statement}
+use Rattle.filter.proofs.link_if.Tie as tie
+
+returns : tie.Need-returns
+returns c e = absurd (true≢false (sym e ∙ not-true _ (c .if1 .taken)))
+
+returns-2 : tie.Need-returns-2
+returns-2 c e = c .before .before .link .ensures
+
+pub link-if-spec : {M : Type 1} → statement M
+link-if-spec = tie.close (tie.spec returns (λ c κs. search needs) (λ c. search needs) returns-2)

@@ -1,0 +1,50 @@
+-- The flag of the loop says that the needs passed are met.
+use Prim.Native.Nat.{_≤_, _-_}
+use mathlib.Core.Path.{_≡_, sym}
+use denote.Ref.{now}
+use Rattle.laws.specs.Search.{every}
+use Rattle.laws.proofs.Search.{every-zero, every-step}
+use Rattle.filter.specs.Filter.{needMet}
+use borrow.Author.Needs.{needs}
+use native.Mathlib.Omega.{arith}
+use Rattle.filter.proofs.needs_met.Statement.{statement}
+use Rattle.filter.proofs.needs_met.Tie as tie
+
+abbrev Inv-loop : tie.InvT-loop
+Inv-loop balances needs loads g stays i l met₀ k₀ met k = (k ≤ balances) × (met ≡ every k (needMet needs loads g stays i l))
+
+abbrev μ-loop : tie.MeasureT-loop
+μ-loop balances needs loads g stays i l met₀ k₀ met k = balances - k
+
+loop-holds : tie.Need-loop-holds Inv-loop μ-loop
+loop-holds c = (search needs, sym (every-zero _))
+
+load-at-requires : tie.Need-load-at-requires Inv-loop μ-loop
+load-at-requires c κs = c .before .before .before .before .pre (c .before .loop .k) (c .loop-test .taken) .1
+
+load-at-requires-2 : tie.Need-load-at-requires-2 Inv-loop μ-loop
+load-at-requires-2 c κs = c .before .before .before .before .before .pre (c .before .before .loop .k) (c .before .loop-test .taken) .0
+
+load-at-requires-3 : tie.Need-load-at-requires-3 Inv-loop μ-loop
+load-at-requires-3 c κs = c .before .before .before .before .before .before .pre (c .before .before .before .loop .k) (c .before .before .loop-test .taken) .2
+
+loop-again : tie.Need-loop-again Inv-loop μ-loop
+loop-again c =
+    let l = c .before .before .before .before .before .loop in
+    let x = c .before .before .before .before .before .before .before .before .args in (
+      search needs,
+      rw (l .inv .1, c .before .before .before .load-at .ensures .0, c .before .before .load-at2 .ensures .0, c .gone .ensures .0, c .before .load-at3 .ensures .0)
+          (sym (every-step (needMet (now (x .needs)) (now (x .loads)) (x .g) (x .stays) (x .i) (x .l)) (l .k))),
+    )
+
+returns : tie.Need-returns Inv-loop μ-loop
+returns c =
+    let e : c .before .loop .k ≡ c .before .before .before .before .args .balances = omega arith in
+    rw e at (c .before .loop .inv .1)
+
+pub needs-met-spec : {M : Type 1} → statement M
+needs-met-spec =
+    tie.close
+    (tie.spec
+    Inv-loop μ-loop loop-holds load-at-requires load-at-requires-2 (λ c. search needs) load-at-requires-3 (λ c κs. search needs)
+    (λ c. search needs) (λ c. search needs) (λ c. search needs) loop-again returns)

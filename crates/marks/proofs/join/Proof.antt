@@ -1,0 +1,46 @@
+-- The words below w are joined.
+use Prim.Native.Nat.{_≤_, _-_}
+use denote.Ref.{now}
+use Rattle.marks.specs.Marks.{HasRow}
+use Rattle.marks.proofs.Laws.{Joining, join-begun, join-more, join-done}
+use borrow.Author.Needs.{needs}
+use native.Mathlib.Omega.{arith}
+use mathlib.Core.Path.{_≡_}
+use Rattle.marks.proofs.join.Statement.{statement}
+use Rattle.marks.proofs.join.Tie as tie
+
+abbrev Inv-loop : tie.InvT-loop
+Inv-loop one u other v w₀ one₁ w = (w ≤ 4) × Joining one one₁ u other v w
+
+abbrev μ-loop : tie.MeasureT-loop
+μ-loop one u other v w₀ one₁ w = 4 - w
+
+loop-holds : tie.Need-loop-holds Inv-loop μ-loop
+loop-holds c = (search needs, join-begun _ _ _ _)
+
+join-word-requires : tie.Need-join-word-requires Inv-loop μ-loop
+join-word-requires c κs =
+    let room = c .before .before .before .before .before .pre in
+    let size = c .before .before .loop .inv .1 .1 in
+    (omega (arith, room .0, size), room .1, search needs)
+
+loop-again : tie.Need-loop-again Inv-loop μ-loop
+loop-again c =
+    let l = c .before .before .before .before .before .loop in
+    let room = c .before .before .before .before .before .before .before .before .pre in
+    (search needs, rw (c .before .before .join-word .ensures) (join-more _ _ _ _ _ (omega (arith, room .0, l .inv .1 .1)) (c .before .before .before .before .loop-test .taken) _ (l .inv .1)))
+
+same-length : tie.Need-same-length Inv-loop μ-loop
+same-length c = c .before .loop .inv .1 .1
+
+returns : tie.Need-returns Inv-loop μ-loop
+returns c =
+    let l = c .before .loop .inv in
+    let e : c .before .loop .w ≡ 4 = omega arith in
+    join-done _ _ _ _ _ (rw e at (l .1))
+
+pub join-spec : {M : Type 1} → statement M
+join-spec =
+    tie.close
+    (tie.spec
+    Inv-loop μ-loop loop-holds join-word-requires (λ c. search needs) (λ c. search needs) loop-again same-length returns)

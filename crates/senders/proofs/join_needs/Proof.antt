@@ -1,0 +1,96 @@
+-- The needs in the balances below k are kept, and no need gets smaller.
+use Prim.Native.Nat.{ℕ, _+_, _≤_, _<_, _-_}
+use native.Mathlib.Nat.{le-trans}
+use denote.Ref.{now}
+use lib.ListN.{length, set}
+use borrow.Author.Count.{below-more}
+use Rattle.loads.specs.Loads.{entryIndex, loadIn}
+use Rattle.senders.specs.Sets.{needOf, NeedsGrow}
+use Rattle.senders.proofs.Laws.{needs-same, needs-trans, needs-set, entry-here}
+use borrow.Author.Needs.{needs}
+use native.Mathlib.Omega.{arith}
+use Rattle.senders.proofs.join_needs.Statement.{statement}
+use Rattle.senders.proofs.join_needs.Tie as tie
+
+abbrev Inv-loop : tie.InvT-loop
+Inv-loop needs₀ g balances loads left own k₀ needs k =
+    NeedsGrow needs₀ needs × ((j : ℕ) → j < k → (loadIn loads left j + 65536) - loadIn loads own j ≤ loadIn needs g j)
+
+abbrev μ-loop : tie.MeasureT-loop
+μ-loop needs₀ g balances loads left own k₀ needs k = balances - k
+
+-- the start, seen from the loop, and the loop, seen from the second load
+abbrev begun : tie.At-loop Inv-loop μ-loop → tie.Start Inv-loop μ-loop
+begun c = c .before .before .before
+
+abbrev looped : tie.After-load-at2 Inv-loop μ-loop → tie.At-loop Inv-loop μ-loop
+looped c = c .before .before .before
+
+-- balance k has an entry of set g
+there : (c : tie.After-load-at2 Inv-loop μ-loop) → entryIndex (begun (looped c) .args .g) (looped c .loop .k) < length (looped c .loop .needs)
+there c =
+    let p = begun (looped c) .pre in
+    omega (arith, p .0, p .2, p .3 .few, looped c .loop .inv .0 .size, c .before .before .loop-test .taken)
+
+loop-holds : tie.Need-loop-holds Inv-loop μ-loop
+loop-holds c = (needs-same _, λ j h. absurd (omega arith))
+
+load-at-requires : tie.Need-load-at-requires Inv-loop μ-loop
+load-at-requires c κs =
+    let p = begun (c .before) .pre .3 in
+    let left = p .left _ (c .loop-test .taken) in
+    let own = p .own _ (c .loop-test .taken) in
+    (omega (arith, left .0, own .0), omega (arith, left .1, own .1))
+
+load-at-requires-2 : tie.Need-load-at-requires-2 Inv-loop μ-loop
+load-at-requires-2 c κs =
+    let p = begun (c .before .before) .pre .3 in
+    let left = p .left _ (c .before .loop-test .taken) in
+    let own = p .own _ (c .before .loop-test .taken) in
+    (omega (arith, left .0, own .0), omega (arith, left .1, own .1))
+
+sub-need : tie.Need-sub-need Inv-loop μ-loop
+sub-need c =
+    let own = begun (looped c) .pre .3 .own _ (c .before .before .loop-test .taken) in
+    omega (arith, own .1, c .before .load-at .ensures .0, c .load-at2 .ensures .0)
+
+slice-read-greater : tie.Need-slice-read-greater Inv-loop μ-loop
+slice-read-greater c = there (c .before)
+
+greater-requires : tie.Need-greater-requires Inv-loop μ-loop
+greater-requires c κs =
+    let l = looped (c .before) in
+    let p = begun l .pre in
+    let left = p .3 .left _ (c .before .before .before .loop-test .taken) in
+    (l .loop .inv .0 .half (p .1) _ _, omega (arith, left .1, c .before .before .load-at .ensures .0))
+
+slice-write-needs : tie.Need-slice-write-needs Inv-loop μ-loop
+slice-write-needs c = there (c .before .before)
+
+loop-again : tie.Need-loop-again Inv-loop μ-loop
+loop-again c =
+    let at = c .before .before in
+    let x = begun (looped at) .args in
+    let l = looped at .loop in
+    let r = c .greater in
+    let grow = needs-set (l .needs) (x .g) (l .k) (r .result) (there at) (r .ensures .0) (r .ensures .2) in
+    let need = rw (at .before .load-at .ensures .0, at .load-at2 .ensures .0) at (r .ensures .1) in (
+      needs-trans (l .inv .0) grow,
+      below-more (λ j. needOf (now (x .loads)) (x .q) j ≤ loadIn (set (l .needs) (entryIndex (x .g) (l .k)) (r .result)) (x .g) j) (l .k)
+          (λ j h. le-trans (l .inv .1 j h) (grow .more _ j))
+          (rw (entry-here (l .needs) (x .g) (l .k) (r .result) (there at) (r .ensures .0) (r .ensures .2)) need),
+    )
+
+same-length : tie.Need-same-length Inv-loop μ-loop
+same-length c = c .before .loop .inv .0 .size
+
+returns : tie.Need-returns Inv-loop μ-loop
+returns c = (c .before .loop .inv .0, λ j h. c .before .loop .inv .1 j (omega arith))
+
+pub join-needs-spec : {M : Type 1} → statement M
+join-needs-spec =
+    tie.close
+    (tie.spec
+    Inv-loop μ-loop loop-holds load-at-requires (λ c. search needs) load-at-requires-2 sub-need (λ c. search needs) (λ c. search needs)
+    (λ c. search needs) slice-read-greater greater-requires (λ c. search needs) (λ c. search needs) (λ c. search needs) slice-write-needs
+    (λ c. search needs) (λ c. search needs) loop-again same-length returns)
