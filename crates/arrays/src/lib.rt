@@ -1,6 +1,7 @@
 // The array reader: refusals 1 to 12 in checking order, and the remark.
 // Promises specs/File, for every byte string; proofs/Laws says what later crates may take from a file that was read.
-// Depends on the crates that check one refusal each (fields, counts, scopes), records, wire, model and laws.
+// Depends on scans (one pass that a file without a refusal passes), the crates that check one refusal each (fields, counts, scopes), records, wire, model
+// and laws.
 ghost use mathlib.Core.Path.{_≡_};
 ghost use Prim.Native.Nat.{_+_, _*_, _<_, _≤_};
 ghost use lib.ListN.{length};
@@ -73,12 +74,15 @@ fn check_tree(file: &[u8], t: Trailer) -> Check
     check_names(file, t)
 }
 
-// Refusals 6 to 12.
+// Refusals 6 to 12: one pass says that there is none; else they are looked for one after another.
 fn check_records(file: &[u8], t: Trailer) -> Check
     requires { ⌜ RecordsFit (now file) t × (t .nodes ≤ 1024) ⌝ }
     requires { ⌜ t .names ≤ 256 ⌝ }
     ensures { λ r. ⌜ foundOf r ≡ from6 (now (file .entry)) t ⌝ }
 {
+    if scans::passes(file, t) {
+        return Check::Passed;
+    }
     if let Check::Refused(r) = fields::first_bad(6, file, t) {
         return Check::Refused(r);
     }

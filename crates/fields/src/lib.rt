@@ -12,7 +12,7 @@ use records::Refusal;
 use records::Trailer;
 
 // Refusal 6 passes.
-fn shape_fits(r: Record) -> bool
+pub fn shape_fits(r: Record) -> bool
     ensures { λ b. ⌜ b ≡ shapeFits r ⌝ }
 {
     (r.kind <= 6) & (r.arity <= 8) & ((4 <= r.kind) | (r.arity == 0))
@@ -33,7 +33,7 @@ fn rest_zero(r: Record) -> bool
 }
 
 // Refusal 7 passes.
-fn unused_zero(r: Record) -> bool
+pub fn unused_zero(r: Record) -> bool
     ensures { λ b. ⌜ b ≡ unusedZero r ⌝ }
 {
     (r.pad == 0)
@@ -44,7 +44,7 @@ fn unused_zero(r: Record) -> bool
 }
 
 // Refusal 8 passes at node i of m.
-fn children_fit(m: usize, i: usize, r: Record) -> bool
+pub fn children_fit(m: usize, i: usize, r: Record) -> bool
     ensures { λ b. ⌜ b ≡ childrenFit m i r ⌝ }
 {
     ((r.kind == 0) | ((i < r.left) & (r.left < m)))

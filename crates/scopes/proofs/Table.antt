@@ -18,15 +18,15 @@ use Rattle.laws.specs.Bits.{bit}
 use Rattle.laws.proofs.Search.{decided}
 use Rattle.laws.proofs.Lists.{All-drop, All-take, getD-All, all-same}
 use Rattle.laws.proofs.Bits.{bit-or}
-use Rattle.model.specs.Tree.{Array, nodeAt, isAgent}
+use Rattle.model.specs.Tree.{Array, Sort, out, inp, resource, nodeAt, isAgent}
 use Rattle.model.specs.Memory.{isOut}
-use Rattle.model.specs.Formed.{children, binds, uses, inReach, refusal8, refusal9}
+use Rattle.model.specs.Formed.{children, params, binds, uses, inReach, refusal8, refusal9}
 use Rattle.records.specs.declared.Record.{Record}
 use Rattle.records.specs.declared.Trailer.{Trailer}
-use Rattle.records.specs.Record.{argsOf, recordOf, nodeOf, arrayOf}
+use Rattle.records.specs.Record.{argsOf, sortOf, recordOf, nodeOf, arrayOf}
 use Rattle.records.specs.Kinds.{isStop, isPar, isChoice}
 use Rattle.records.proofs.Laws.{node-read}
-use Rattle.records.proofs.KindLaws.{children-of, left-child, right-child}
+use Rattle.records.proofs.KindLaws.{by-node, children-of, left-child, right-child}
 use Rattle.model.proofs.Tree.{child-above}
 use Rattle.model.proofs.Reach.{parent, reach-root, reach-child}
 use Rattle.marks.specs.Marks.{wordAt, HasRow, marked}
@@ -175,16 +175,26 @@ module _ (a : Array) (fit : refusal8 a ≡ clear) (once : refusal9 a ≡ clear) 
 -- ---- the test of refusal 12 by the table
 
 module _ (s : List ℕ) (t : Trailer) (bytes : (k : ℕ) → getD s k 0 < 256) where
-  uses-bytes : (i : ℕ) → All (λ v. v < 256) (uses (nodeOf (recordOf s t i)))
+  args-bytes : (i : ℕ) → All (λ v. v < 256) (argsOf (recordOf s t i))
+  args-bytes i =
+      let rest = All-drop (λ v. v < 256) (t .start + 16 * i + 8) s (getD-All (λ v. v < 256) s 0 bytes) in
+      All-take (λ v. v < 256) (recordOf s t i .arity) (recordOf s t i .args) (All-take (λ v. v < 256) 8 (drop (t .start + 16 * i + 8) s) rest)
+
+  -- names are bytes
+  pub binds-bytes : (i : ℕ) → All (λ v. v < 256) (binds (nodeOf (recordOf s t i)))
+  unfolding binds params
+  binds-bytes i = by-node (recordOf s t i) (λ n. All (λ v. v < 256) (binds n)) tt (bytes (t .start + 16 * i + 6), tt) tt tt (go (sortOf (recordOf s t i)))
+    where
+      go : (o : Sort) → All (λ v. v < 256) (params o (argsOf (recordOf s t i)))
+      go out = tt
+      go inp = args-bytes i
+      go resource = args-bytes i
+
+  pub uses-bytes : (i : ℕ) → All (λ v. v < 256) (uses (nodeOf (recordOf s t i)))
   uses-bytes i = rw (uses-of (recordOf s t i)) (go (isAgent (nodeOf (recordOf s t i))) (isOut (nodeOf (recordOf s t i))))
     where
-      args : All (λ v. v < 256) (argsOf (recordOf s t i))
-      args =
-          let rest = All-drop (λ v. v < 256) (t .start + 16 * i + 8) s (getD-All (λ v. v < 256) s 0 bytes) in
-          All-take (λ v. v < 256) (recordOf s t i .arity) (recordOf s t i .args) (All-take (λ v. v < 256) 8 (drop (t .start + 16 * i + 8) s) rest)
-
       go : (a b : Bool) → All (λ v. v < 256) (cond a (recordOf s t i .name ∷ cond b (argsOf (recordOf s t i)) []) [])
-      go true true = (bytes (t .start + 16 * i + 6), args)
+      go true true = (bytes (t .start + 16 * i + 6), args-bytes i)
       go true false = (bytes (t .start + 16 * i + 6), tt)
       go false b = tt
 
