@@ -28,7 +28,7 @@ fn add_if(table: &mut [u16], on: bool, at: usize)
 }
 
 // Counts the children that a record names.
-pub fn count_children(table: &mut [u16], r: Record)
+fn count_children(table: &mut [u16], r: Record)
     requires { ⌜ Below (now table) 65000 ⌝ }
     ensures { λ _. ⌜ Grown (now (table .entry)) (now (table .exit)) (times (children (nodeOf r))) ⌝ }
 {
@@ -66,7 +66,7 @@ fn count_params(table: &mut [u16], r: Record)
 }
 
 // Counts the names that a record binds.
-pub fn count_names(table: &mut [u16], r: Record)
+fn count_names(table: &mut [u16], r: Record)
     requires { ⌜ Below (now table) 60000 ⌝ }
     ensures { λ _. ⌜ Grown (now (table .entry)) (now (table .exit)) (times (binds (nodeOf r))) ⌝ }
 {

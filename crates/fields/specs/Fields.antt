@@ -21,15 +21,17 @@ shapeFits r = leb (r .kind) 6 && leb (r .arity) 8 && (leb 4 (r .kind) || eqb (r 
 abbrev pub restZero : Record → ℕ → Bool
 restZero r k = ltb k (r .arity) || eqb (getD (r .args) k 0) 0
 
--- "7. An unused field isn't zero (node)." Every kind but stop uses its left child; par and choice their right child; a new and
--- the agents their name; agents as many arguments as their arity says.
-abbrev pub unusedZero : Record → Bool
-unusedZero r =
+-- every kind but stop uses its left child; par and choice their right child; a new and the agents their name
+abbrev pub fieldsZero : Record → Bool
+fieldsZero r =
     eqb (r .pad) 0
     && (not (eqb (r .kind) 0) || eqb (r .left) 0)
     && (eqb (r .kind) 2 || eqb (r .kind) 3 || eqb (r .right) 0)
     && (eqb (r .kind) 1 || leb 4 (r .kind) || eqb (r .name) 0)
-    && every 8 (restZero r)
+
+-- "7. An unused field isn't zero (node)." Agents use as many arguments as their arity says.
+abbrev pub unusedZero : Record → Bool
+unusedZero r = fieldsZero r && every 8 (restZero r)
 
 -- 8 and 10 at one node, as the model has them
 unfoldable pub childrenFit : ℕ → ℕ → Record → Bool

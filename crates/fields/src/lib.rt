@@ -5,7 +5,7 @@ ghost use mathlib.Core.Path.{_≡_};
 ghost use Prim.Native.Nat.{_+_};
 ghost use Rattle.laws.specs.Search.{every};
 ghost use Rattle.records.specs.Record.{RecordsFit, foundOf};
-ghost use Rattle.fields.specs.Fields.{shapeFits, restZero, unusedZero, childrenFit, argBelow, namesFit, passes, firstBad};
+ghost use Rattle.fields.specs.Fields.{shapeFits, restZero, fieldsZero, unusedZero, childrenFit, argBelow, namesFit, passes, firstBad};
 use records::Check;
 use records::Record;
 use records::Refusal;
@@ -32,15 +32,21 @@ fn rest_zero(r: Record) -> bool
     zero
 }
 
-// Refusal 7 passes.
-pub fn unused_zero(r: Record) -> bool
-    ensures { λ b. ⌜ b ≡ unusedZero r ⌝ }
+// The fields before the arguments that the kind does not use are zero.
+pub fn fields_zero(r: Record) -> bool
+    ensures { λ b. ⌜ b ≡ fieldsZero r ⌝ }
 {
     (r.pad == 0)
         & ((r.kind != 0) | (r.left == 0))
         & ((r.kind == 2) | (r.kind == 3) | (r.right == 0))
         & ((r.kind == 1) | (4 <= r.kind) | (r.name == 0))
-        & rest_zero(r)
+}
+
+// Refusal 7 passes.
+fn unused_zero(r: Record) -> bool
+    ensures { λ b. ⌜ b ≡ unusedZero r ⌝ }
+{
+    fields_zero(r) & rest_zero(r)
 }
 
 // Refusal 8 passes at node i of m.

@@ -1,5 +1,5 @@
 -- The pass: what the tables hold while nodes are passed (`Scanned`), one node more, and what follows at the end.
-use Prim.Native.Nat.{ℕ, zero, suc, _+_, _≤_, _<_}
+use Prim.Native.Nat.{ℕ, zero, suc, _+_, _*_, _≤_, _<_}
 use native.Mathlib.Nat.{eq-or-lt-of-le, not-suc-le-zero, le-of-suc-le-suc}
 use native.Mathlib.Omega.{arith}
 use mathlib.Core.Path.{_≡_, refl, sym, ap, _∙_}
@@ -28,42 +28,11 @@ use Rattle.records.proofs.Laws.{node-of}
 use Rattle.fields.specs.Fields.{shapeFits, unusedZero, childrenFit, badAt, firstBad}
 use Rattle.fields.proofs.Laws.{first-bad-6, first-bad-7, first-bad-8}
 use Rattle.counts.specs.Counts.{Grown}
-use Rattle.counts.proofs.Laws.{Counted, counted-none, counted-more, adds, counted-all}
+use Rattle.counts.proofs.Laws.{Counted, counted-none, counted-more, counted-below, zeros-below, few-args, children-le, binds-le, adds, counted-all}
 use Rattle.scopes.specs.Scope.{HandedDown}
 use Rattle.scopes.proofs.Table.{uses-bytes, binds-bytes}
-use Rattle.scans.specs.Pass.{Clear, nodeFits, countFits}
-
--- ---- one node
-
--- what the test of a node says
-pub record Fits (reach parents : List ℕ) (m i : ℕ) (r : Record) : Type 0 where
-  pub shape : shapeFits r ≡ true
-  pub zeros : unusedZero r ≡ true
-  pub above : childrenFit m i r ≡ true
-  pub count : eqb i 0 || eqb (getD parents i 0) 1 ≡ true
-  pub names : all (marked reach i) (uses (nodeOf r)) ≡ true
-
-pub fits-of : (reach parents : List ℕ) (m i : ℕ) (r : Record) → nodeFits reach parents m i r ≡ true → Fits reach parents m i r
-unfolding nodeFits
-fits-of reach parents m i r e =
-    let s = and-split (shapeFits r && unusedZero r && childrenFit m i r && (eqb i 0 || eqb (getD parents i 0) 1)) _ e in
-    let c = and-split (shapeFits r && unusedZero r && childrenFit m i r) _ (s .0) in
-    let f = and-split (shapeFits r && unusedZero r) _ (c .0) in
-    let z = and-split (shapeFits r) _ (f .0) in
-    record { shape = z .0; zeros = z .1; above = f .1; count = c .1; names = s .1 }
-
-module _ (m i : ℕ) (r : Record) (fits : childrenFit m i r ≡ true) where
-  pub child-above : (c : ℕ) → has (children (nodeOf r)) c ≡ true → (i < c) × (c < m)
-  unfolding childrenFit childFits
-  child-above c h =
-      let s = and-split (ltb i c) (ltb c m) (all-has (childFits m i) (children (nodeOf r)) c fits h) in
-      (ltb-true i c (s .0), ltb-true c m (s .1))
-
-  -- no node up to the parent is its child
-  no-child : (c : ℕ) → c ≤ i → has (children (nodeOf r)) c ≡ false
-  no-child c l =
-      ⊎-elim (λ (h : has (children (nodeOf r)) c ≡ true). absurd (omega (arith, child-above c h .0)))
-      (λ (h : has (children (nodeOf r)) c ≡ false). h) (decided (has (children (nodeOf r)) c))
+use Rattle.scans.proofs.Node.{no-child}
+use Rattle.scans.specs.Pass.{Clear, countFits, Ready, Passed}
 
 -- a number that does not stand in a list stands there 0 times
 none-times : (xs : List ℕ) (v : ℕ) → has xs v ≡ false → times xs v ≡ 0
@@ -117,6 +86,21 @@ scanned-start s t = record {
 -- ---- one node more
 
 module _ (s : List ℕ) (t : Trailer) (reach parents bound : List ℕ) (j : ℕ) (h : Scanned s t reach parents bound j) where
+  -- there is room, since a node adds at most 2 to a count of fields and at most 9 to one of binders
+  pub scanned-ready : t .nodes ≤ 1024 → j < t .nodes → Ready (t .nodes) j reach parents bound
+  scanned-ready few l = record {
+    here = l;
+    rows = let e = h .rows in omega arith;
+    nodes = let e = h .fields .0 in omega arith;
+    names = h .counts .0;
+    fewFields =
+        counted-below (replicate 1024 0) parents (adds children s t) j (h .fields) 1 2 65000 (zeros-below 1024)
+        (λ k. children-le (recordOf s t k)) (omega arith);
+    fewNames =
+        counted-below (replicate 256 0) bound (adds binds s t) j (h .counts) 1 9 60000 (zeros-below 256)
+        (λ k. binds-le (recordOf s t k) (few-args s (t .start + 16 * k))) (omega arith);
+  }
+
   counted-at : (v : ℕ) → v < 1024 → getD parents v 0 ≡ sum j (λ k. adds children s t k v)
   counted-at v l = let e = h .fields .1 v (rw length-replicate l) in let z = getD-zeros 1024 v in omega arith
 
@@ -125,18 +109,17 @@ module _ (s : List ℕ) (t : Trailer) (reach parents bound : List ℕ) (j : ℕ)
   counted-child p c l e k =
       omega (arith, counted-at c k, sum-one j (λ i. adds children s t i c) p l, has-times (children (node s t p)) c e)
 
-  module _ (few : t .nodes ≤ 1024) (l : j < t .nodes) (fit : Fits reach parents (t .nodes) j (recordOf s t j))
-      (reach′ parents′ bound′ : List ℕ) (down : HandedDown reach reach′ j (node s t j))
-      (more : Grown parents parents′ (times (children (node s t j)))) where
+  module _ (few : t .nodes ≤ 1024) (l : j < t .nodes) (count : eqb j 0 || eqb (getD parents j 0) 1 ≡ true) (reach′ parents′ bound′ : List ℕ)
+      (fit : Passed (t .nodes) j (recordOf s t j) reach parents bound reach′ parents′ bound′) where
     more-at : (c : ℕ) → c < 1024 → getD parents′ c 0 ≡ getD parents c 0 + times (children (node s t j)) c
-    more-at c k = more c (let e = h .fields .0 in let z : length {A = ℕ} (replicate 1024 0) ≡ 1024 = length-replicate {A = ℕ} 1024 0 in omega arith)
+    more-at c k = fit .fields c (let e = h .fields .0 in let z : length {A = ℕ} (replicate 1024 0) ≡ 1024 = length-replicate {A = ℕ} 1024 0 in omega arith)
 
     -- nothing that is written concerns a node up to j
     same-count : (i : ℕ) → i ≤ j → getD parents′ i 0 ≡ getD parents i 0
     same-count i k = omega (arith, more-at i (omega arith), none-times _ i (no-child (t .nodes) j (recordOf s t j) (fit .above) i k))
 
     same-row : (i v : ℕ) → v < 256 → has (children (node s t j)) i ≡ false → marked reach′ i v ≡ marked reach i v
-    same-row i v k e = down .rows i v k ∙ rw e
+    same-row i v k e = fit .down .rows i v k ∙ rw e
 
     early-row : (i v : ℕ) → v < 256 → i ≤ j → marked reach′ i v ≡ marked reach i v
     early-row i v k e = same-row i v k (no-child (t .nodes) j (recordOf s t j) (fit .above) i e)
@@ -147,7 +130,7 @@ module _ (s : List ℕ) (t : Trailer) (reach parents bound : List ℕ) (j : ℕ)
         go : (i ≡ j) ⊎ (i < j) → getD parents i 0 ≡ 1
         go (inl q) =
             ⊎-elim (λ (z : eqb j 0 ≡ true). absurd (n (q ∙ eqb-true j 0 z))) (λ (z : eqb (getD parents j 0) 1 ≡ true). rw q (eqb-true _ 1 z))
-            (or-split (eqb j 0) (eqb (getD parents j 0) 1) (fit .count))
+            (or-split (eqb j 0) (eqb (getD parents j 0) 1) count)
         go (inr q) = h .once i q n
 
     linked-more : Linked s t reach′ parents′ (j + 1)
@@ -156,7 +139,7 @@ module _ (s : List ℕ) (t : Trailer) (reach parents bound : List ℕ) (j : ℕ)
         go : (p ≡ j) ⊎ (p < j) → marked reach′ c v ≡ marked reach′ p v || has (binds (node s t p)) v
         go (inl q) =
             rw q
-            (down .rows c v w ∙ rw (ap (λ (i : ℕ). has (children (node s t i)) c) (sym q) ∙ e)
+            (fit .down .rows c v w ∙ rw (ap (λ (i : ℕ). has (children (node s t i)) c) (sym q) ∙ e)
             (ap (λ (b : Bool). b || has (binds (node s t j)) v) (sym (early-row j v w (omega arith)))))
         go (inr q) =
             let first = counted-child p c q e b in
@@ -169,33 +152,24 @@ module _ (s : List ℕ) (t : Trailer) (reach parents bound : List ℕ) (j : ℕ)
     used-more i v k e w = early-row i v w (omega arith) ∙ go (eq-or-lt-of-le (omega arith))
       where
         go : (i ≡ j) ⊎ (i < j) → marked reach i v ≡ true
-        go (inl q) = rw q (all-has (marked reach j) (uses (node s t j)) v (fit .names) (ap (λ (i : ℕ). has (uses (node s t i)) v) (sym q) ∙ e))
+        go (inl q) = rw q (all-has (marked reach j) (uses (node s t j)) v (fit .used) (ap (λ (i : ℕ). has (uses (node s t i)) v) (sym q) ∙ e))
         go (inr q) = h .used i v q e w
 
-    step : length reach′ ≡ length reach → length parents′ ≡ length parents → length bound′ ≡ length bound
-        → Grown bound bound′ (times (binds (node s t j))) → Scanned s t reach′ parents′ bound′ (j + 1)
+    pub scanned-step : length reach′ ≡ length reach → length parents′ ≡ length parents → length bound′ ≡ length bound
+        → Scanned s t reach′ parents′ bound′ (j + 1)
     unfolding badAt
-    step er ep eb grown = record {
+    scanned-step er ep eb = record {
       shapes = first-pass _ j (h .shapes) (clear-test _ _ (fit .shape));
       unused = first-pass _ j (h .unused) (clear-test _ _ (fit .zeros));
       fits = first-pass _ j (h .fits) (clear-test _ _ (fit .above));
       rows = er ∙ h .rows;
-      fields = counted-more (replicate 1024 0) parents (adds children s t) j (h .fields) parents′ ep more;
+      fields = counted-more (replicate 1024 0) parents (adds children s t) j (h .fields) parents′ ep (fit .fields);
       once = once-more;
-      counts = counted-more (replicate 256 0) bound (adds binds s t) j (h .counts) bound′ eb grown;
+      counts = counted-more (replicate 256 0) bound (adds binds s t) j (h .counts) bound′ eb (fit .bound);
       root = λ v w. early-row 0 v w (omega arith) ∙ h .root v w;
       linked = linked-more;
       used = used-more;
     }
-
-  -- the same of the record that was read
-  pub scanned-step : (r : Record) → r ≡ recordOf s t j → t .nodes ≤ 1024 → j < t .nodes → nodeFits reach parents (t .nodes) j r ≡ true
-      → (reach′ parents′ bound′ : List ℕ) → HandedDown reach reach′ j (nodeOf r) → Grown parents parents′ (times (children (nodeOf r)))
-      → Grown bound bound′ (times (binds (nodeOf r))) → length reach′ ≡ length reach → length parents′ ≡ length parents → length bound′ ≡ length bound
-      → Scanned s t reach′ parents′ bound′ (j + 1)
-  scanned-step r e few l test reach′ parents′ bound′ down more grown er ep eb =
-      step few l (fits-of reach parents (t .nodes) j (recordOf s t j) (rw e at test)) reach′ parents′ bound′ (rw e at down) (rw e at more) er ep eb
-      (rw e at grown)
 
 -- ---- at the end
 

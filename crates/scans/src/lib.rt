@@ -1,30 +1,197 @@
 // One pass over the records, from the root up, that says yes only where none of the refusals 6 to 12 comes. A no says nothing: the reader then looks
-// for the refusal. Promises specs/Pass, Clear. Depends on fields, counts and scopes (the tests and tables of single refusals), records, marks, wire,
+// for the refusal. Promises specs/Pass, Clear. Depends on fields, scopes and counts (the tests and tables of single refusals), records, marks, wire,
 // model and laws. The tables take 35,328 bytes of stack.
 ghost use mathlib.Core.Path.{_≡_};
-ghost use mathlib.Core.Bool.{true};
-ghost use Prim.Native.Nat.{_<_, _≤_};
-ghost use lib.ListN.{length, replicate};
-ghost use Rattle.laws.specs.Search.{every};
-ghost use Rattle.marks.specs.Marks.{HasRow};
-ghost use Rattle.records.specs.Record.{RecordsFit};
-ghost use Rattle.scans.specs.Pass.{Clear, nodeFits, countFits};
+ghost use mathlib.Core.Bool.{true, false, _||_};
+ghost use Prim.Native.Nat.{ℕ, _+_, _*_, _<_, _≤_};
+ghost use lib.Dec.{eqb};
+ghost use lib.ListN.{length, getD, replicate};
+ghost use Rattle.laws.specs.Search.{every, any, sum};
+ghost use Rattle.laws.specs.Lists.{one};
+ghost use Rattle.marks.specs.Marks.{HasRow, marked};
+ghost use Rattle.model.specs.Tree.{isAgent};
+ghost use Rattle.records.specs.Record.{RecordsFit, recordOf, nodeOf};
+ghost use Rattle.counts.specs.Counts.{Grown, Below};
+ghost use Rattle.scopes.specs.Scope.{passed};
+ghost use Rattle.scans.specs.Pass.{Clear, recordFits, argAt, RestZero, countFits, Ready, Passed};
 use records::Record;
 use records::Trailer;
 
-// Node i of m, whose record is r, passes 6 to 9 and 12. Its parent comes before it, so that its row and its count are final.
-fn node_fits(reach: &[u64], parents: &[u16], m: usize, i: usize, r: Record) -> bool
-    requires { ⌜ HasRow (now reach) i × (i < length (now parents)) × (r .name < 256) ⌝ }
-    ensures { λ b. ⌜ b ≡ nodeFits (now (reach .entry)) (now (parents .entry)) m i r ⌝ }
+// 6, 7 and 8 pass at node i of m, but for the argument bytes.
+fn record_fits(m: usize, i: usize, r: Record) -> bool
+    ensures { λ b. ⌜ b ≡ recordFits m i r ⌝ }
 {
-    fields::shape_fits(r)
-        & fields::unused_zero(r)
-        & fields::children_fit(m, i, r)
-        & ((i == 0) | (parents[i] == 1))
-        & scopes::uses_marked(reach, i, r)
+    fields::shape_fits(r) & fields::fields_zero(r) & fields::children_fit(m, i, r)
 }
 
-// Each name below n was bound once, and no other.
+// The argument bytes past the arity are zero, all at once.
+fn rest_zero(file: &[u8], at: usize, arity: usize) -> bool
+    requires { ⌜ at + 7 < length (now file) ⌝ }
+    ensures { λ b. ⌜ (b ≡ true → RestZero (now (file .entry)) at arity) ⌝ }
+{
+    if arity < 8 {
+        return wire::u64_at(file, at) >> (8 * arity) == 0;
+    }
+    true
+}
+
+// 6, 7 and 8 pass at node i of m, an agent whose record is r and whose arguments start at `at`, and its channel is marked in its row.
+fn agent_fits(reach: &[u64], file: &[u8], at: usize, m: usize, i: usize, r: Record) -> bool
+    requires { ⌜ HasRow (now reach) i × (r .name < 256) × (at + 7 < length (now file)) ⌝ }
+    ensures { λ b. ⌜ (b ≡ true → (recordFits m i r ≡ true) × RestZero (now (file .entry)) at (r .arity) × (marked (now (reach .entry)) i (r .name) ≡ true)) ⌝ }
+{
+    record_fits(m, i, r) & rest_zero(file, at, r.arity) & marks::is_marked(reach, i, r.name)
+}
+
+// The argument bytes are marked in row i.
+fn args_marked(reach: &[u64], i: usize, file: &[u8], at: usize, arity: usize) -> bool
+    requires { ⌜ HasRow (now reach) i × (at + arity ≤ length (now file)) ⌝ }
+    ensures { λ b. ⌜ b ≡ every arity (λ k. marked (now (reach .entry)) i (argAt (now (file .entry)) at k)) ⌝ }
+{
+    let mut found = true;
+    let mut k: usize = 0;
+    while k < arity {
+        found = found & marks::is_marked(reach, i, wire::byte_index(file[at + k]));
+        k += 1;
+    }
+    found
+}
+
+// The argument bytes, marked.
+fn args_row(file: &[u8], at: usize, arity: usize) -> [u64; 4]
+    requires { ⌜ at + arity ≤ length (now file) ⌝ }
+    ensures { λ row. ⌜ ((v : ℕ) → marked row 0 v ≡ any arity (λ k. eqb v (argAt (now (file .entry)) at k))) ⌝ }
+{
+    let mut row = [0u64; 4];
+    let mut k: usize = 0;
+    while k < arity {
+        marks::mark_if(&mut row, true, wire::byte_index(file[at + k]));
+        k += 1;
+    }
+    row
+}
+
+// One name, marked.
+fn name_row(v: usize) -> [u64; 4]
+    requires { ⌜ v < 256 ⌝ }
+    ensures { λ row. ⌜ ((u : ℕ) → marked row 0 u ≡ eqb u v) ⌝ }
+{
+    let mut row = [0u64; 4];
+    marks::mark_if(&mut row, true, v);
+    row
+}
+
+// Counts one more at an entry.
+fn count(table: &mut [u16], at: usize)
+    requires { ⌜ (at < length (now table)) × (getD (now table) at 0 < 65535) ⌝ }
+    ensures { λ _. ⌜ Grown (now (table .entry)) (now (table .exit)) (λ v. one (eqb v at)) ⌝ }
+{
+    table[at] = table[at] + 1;
+}
+
+// Counts the argument bytes.
+fn count_args(binders: &mut [u16], file: &[u8], at: usize, arity: usize)
+    requires { ⌜ (length (now binders) ≡ 256) × Below (now binders) 60000 × (arity ≤ 8) × (at + arity ≤ length (now file)) ⌝ }
+    ensures { λ _. ⌜ Grown (now (binders .entry)) (now (binders .exit)) (λ v. sum arity (λ k. one (eqb v (argAt (now (file .entry)) at k)))) ⌝ }
+{
+    let mut k: usize = 0;
+    while k < arity {
+        count(binders, wire::byte_index(file[at + k]));
+        k += 1;
+    }
+}
+
+// Child `to` of node `from` has the marks of its parent and of what its parent binds, and is named by one field more.
+fn hand_down(reach: &mut [u64], parents: &mut [u16], from: usize, to: usize, bound: [u64; 4])
+    requires { ⌜ (from < to) × HasRow (now reach) to × (to < length (now parents)) × (getD (now parents) to 0 < 65535) ⌝ }
+    ensures { λ _. ⌜ now (reach .exit) ≡ passed (now (reach .entry)) from to bound 4 ⌝ }
+    ensures { λ _. ⌜ Grown (now (parents .entry)) (now (parents .exit)) (λ v. one (eqb v to)) ⌝ }
+{
+    scopes::pass_down(reach, from, to, bound);
+    count(parents, to);
+}
+
+// Passes node i, an agent whose record is r. False where it does not fit.
+fn pass_agent(
+    reach: &mut [u64],
+    parents: &mut [u16],
+    binders: &mut [u16],
+    file: &[u8],
+    t: Trailer,
+    i: usize,
+    r: Record,
+) -> bool
+    requires { ⌜ RecordsFit (now file) t × Ready (t .nodes) i (now reach) (now parents) (now binders) ⌝ }
+    requires { ⌜ (r ≡ recordOf (now file) t i) × (r .name < 256) × (isAgent (nodeOf r) ≡ true) ⌝ }
+    ensures { λ b. ⌜ (b ≡ true → Passed (t .nodes) i r (now (reach .entry)) (now (parents .entry)) (now (binders .entry)) (now (reach .exit)) (now (parents .exit)) (now (binders .exit))) ⌝ }
+{
+    let at = t.start + 16 * i + 8;
+    if !agent_fits(reach, file, at, t.nodes, i, r) {
+        return false;
+    }
+    if records::sends(r) {
+        if !args_marked(reach, i, file, at, r.arity) {
+            return false;
+        }
+        hand_down(reach, parents, i, r.left, [0; 4]);
+        return true;
+    }
+    count_args(binders, file, at, r.arity);
+    hand_down(reach, parents, i, r.left, args_row(file, at, r.arity));
+    true
+}
+
+// Passes node i, a stop, new, par or choice whose record is r. False where it does not fit.
+fn pass_other(
+    reach: &mut [u64],
+    parents: &mut [u16],
+    binders: &mut [u16],
+    file: &[u8],
+    t: Trailer,
+    i: usize,
+    r: Record,
+) -> bool
+    requires { ⌜ RecordsFit (now file) t × Ready (t .nodes) i (now reach) (now parents) (now binders) ⌝ }
+    requires { ⌜ (r ≡ recordOf (now file) t i) × (r .name < 256) × (isAgent (nodeOf r) ≡ false) ⌝ }
+    ensures { λ b. ⌜ (b ≡ true → Passed (t .nodes) i r (now (reach .entry)) (now (parents .entry)) (now (binders .entry)) (now (reach .exit)) (now (parents .exit)) (now (binders .exit))) ⌝ }
+{
+    let at = t.start + 16 * i + 8;
+    if !(record_fits(t.nodes, i, r) & rest_zero(file, at, 0)) {
+        return false;
+    }
+    if records::is_stop(r) {
+        return true;
+    }
+    if records::is_new(r) {
+        count(binders, r.name);
+        hand_down(reach, parents, i, r.left, name_row(r.name));
+        return true;
+    }
+    hand_down(reach, parents, i, r.left, [0; 4]);
+    hand_down(reach, parents, i, r.right, [0; 4]);
+    true
+}
+
+// Passes node i. False where it does not fit.
+fn pass_node(
+    reach: &mut [u64],
+    parents: &mut [u16],
+    binders: &mut [u16],
+    file: &[u8],
+    t: Trailer,
+    i: usize,
+) -> bool
+    requires { ⌜ RecordsFit (now file) t × Ready (t .nodes) i (now reach) (now parents) (now binders) ⌝ }
+    ensures { λ b. ⌜ (b ≡ true → Passed (t .nodes) i (recordOf (now (file .entry)) t i) (now (reach .entry)) (now (parents .entry)) (now (binders .entry)) (now (reach .exit)) (now (parents .exit)) (now (binders .exit))) ⌝ }
+{
+    let r = records::node_at(file, t, i);
+    if records::is_agent(r) {
+        return pass_agent(reach, parents, binders, file, t, i, r);
+    }
+    pass_other(reach, parents, binders, file, t, i, r)
+}
+
+// Each name below n was counted once, and no other.
 fn bound_once(binders: &[u16], n: usize) -> bool
     requires { ⌜ length (now binders) ≡ 256 ⌝ }
     ensures { λ b. ⌜ b ≡ every 256 (countFits (now (binders .entry)) n) ⌝ }
@@ -39,20 +206,26 @@ fn bound_once(binders: &[u16], n: usize) -> bool
 }
 
 // The pass, over tables without marks and counts: the names that reach each node, how many fields name each node, how often each name is bound.
-fn scan(reach: &mut [u64], parents: &mut [u16], binders: &mut [u16], file: &[u8], t: Trailer) -> bool
+// A parent comes before its children, so that a node's row and count are final when it is passed.
+fn scan(
+    reach: &mut [u64],
+    parents: &mut [u16],
+    binders: &mut [u16],
+    file: &[u8],
+    t: Trailer,
+) -> bool
     requires { ⌜ RecordsFit (now file) t × (t .nodes ≤ 1024) × (t .names ≤ 256) ⌝ }
     requires { ⌜ (now reach ≡ replicate 4096 0) × (now parents ≡ replicate 1024 0) × (now binders ≡ replicate 256 0) ⌝ }
     ensures { λ b. ⌜ (b ≡ true → Clear (now (file .entry)) t) ⌝ }
 {
     let mut i: usize = 0;
     while i < t.nodes {
-        let r = records::node_at(file, t, i);
-        if !node_fits(reach, parents, t.nodes, i, r) {
+        if !((i == 0) | (parents[i] == 1)) {
             return false;
         }
-        counts::count_children(parents, r);
-        counts::count_names(binders, r);
-        scopes::pass_children(reach, i, r);
+        if !pass_node(reach, parents, binders, file, t, i) {
+            return false;
+        }
         i += 1;
     }
     bound_once(binders, t.names)

@@ -41,7 +41,7 @@ pub fn bound_by(r: Record) -> [u64; 4]
 }
 
 // Child `to` of node `from` has the marks of its parent and of what its parent binds.
-fn pass_down(reach: &mut [u64], from: usize, to: usize, bound: [u64; 4])
+pub fn pass_down(reach: &mut [u64], from: usize, to: usize, bound: [u64; 4])
     requires { ⌜ (from < to) × HasRow (now reach) to ⌝ }
     ensures { λ _. ⌜ now (reach .exit) ≡ passed (now (reach .entry)) from to bound 4 ⌝ }
 {
@@ -64,7 +64,7 @@ fn pass_if(reach: &mut [u64], on: bool, from: usize, to: usize, bound: [u64; 4])
 }
 
 // The children of node j, whose record is r, have the marks of node j and of what it binds.
-pub fn pass_children(reach: &mut [u64], j: usize, r: Record)
+fn pass_children(reach: &mut [u64], j: usize, r: Record)
     requires { ⌜ r .name < 256 ⌝ }
     requires { ⌜ ((c : ℕ) → has (children (nodeOf r)) c ≡ true → (j < c) × HasRow (now reach) c) ⌝ }
     ensures { λ _. ⌜ HandedDown (now (reach .entry)) (now (reach .exit)) j (nodeOf r) ⌝ }
@@ -105,7 +105,7 @@ fn args_marked(reach: &[u64], i: usize, r: Record) -> bool
 }
 
 // The names that a record uses are marked in row i.
-pub fn uses_marked(reach: &[u64], i: usize, r: Record) -> bool
+fn uses_marked(reach: &[u64], i: usize, r: Record) -> bool
     requires { ⌜ HasRow (now reach) i × (r .name < 256) ⌝ }
     ensures { λ b. ⌜ b ≡ all (marked (now (reach .entry)) i) (uses (nodeOf r)) ⌝ }
 {
