@@ -160,7 +160,7 @@ module _ (m i : ℕ) (r : Record) (fits : childrenFit m i r ≡ true) where
 -- ---- a node that passes the tests of its record
 
 -- what a child needs to be handed down to
-abbrev Open : ℕ → ℕ → List ℕ → List ℕ → Type 0
+abbrev pub Open : ℕ → ℕ → List ℕ → List ℕ → Type 0
 Open i c reach parents = (i < c) × HasRow reach c × (c < length parents) × (getD parents c 0 < 65535)
 
 module _ {m i : ℕ} {reach parents binders : List ℕ} (ready : Ready m i reach parents binders) (r : Record) (test : recordFits m i r ≡ true) where

@@ -123,7 +123,8 @@ fn pass_agent(
 ) -> bool
     requires { ⌜ RecordsFit (now file) t × Ready (t .nodes) i (now reach) (now parents) (now binders) ⌝ }
     requires { ⌜ (r ≡ recordOf (now file) t i) × (r .name < 256) × (isAgent (nodeOf r) ≡ true) ⌝ }
-    ensures { λ b. ⌜ (b ≡ true → Passed (t .nodes) i r (now (reach .entry)) (now (parents .entry)) (now (binders .entry)) (now (reach .exit)) (now (parents .exit)) (now (binders .exit))) ⌝ }
+    ensures { λ b. ⌜ (b ≡ true → Passed (t .nodes) i r (now (reach .entry)) (now (parents .entry)) (now (binders .entry))
+        (now (reach .exit)) (now (parents .exit)) (now (binders .exit))) ⌝ }
 {
     let at = t.start + 16 * i + 8;
     if !agent_fits(reach, file, at, t.nodes, i, r) {
@@ -153,7 +154,8 @@ fn pass_other(
 ) -> bool
     requires { ⌜ RecordsFit (now file) t × Ready (t .nodes) i (now reach) (now parents) (now binders) ⌝ }
     requires { ⌜ (r ≡ recordOf (now file) t i) × (r .name < 256) × (isAgent (nodeOf r) ≡ false) ⌝ }
-    ensures { λ b. ⌜ (b ≡ true → Passed (t .nodes) i r (now (reach .entry)) (now (parents .entry)) (now (binders .entry)) (now (reach .exit)) (now (parents .exit)) (now (binders .exit))) ⌝ }
+    ensures { λ b. ⌜ (b ≡ true → Passed (t .nodes) i r (now (reach .entry)) (now (parents .entry)) (now (binders .entry))
+        (now (reach .exit)) (now (parents .exit)) (now (binders .exit))) ⌝ }
 {
     let at = t.start + 16 * i + 8;
     if !(record_fits(t.nodes, i, r) & rest_zero(file, at, 0)) {
@@ -182,7 +184,8 @@ fn pass_node(
     i: usize,
 ) -> bool
     requires { ⌜ RecordsFit (now file) t × Ready (t .nodes) i (now reach) (now parents) (now binders) ⌝ }
-    ensures { λ b. ⌜ (b ≡ true → Passed (t .nodes) i (recordOf (now (file .entry)) t i) (now (reach .entry)) (now (parents .entry)) (now (binders .entry)) (now (reach .exit)) (now (parents .exit)) (now (binders .exit))) ⌝ }
+    ensures { λ b. ⌜ (b ≡ true → Passed (t .nodes) i (recordOf (now (file .entry)) t i) (now (reach .entry)) (now (parents .entry)) (now (binders .entry))
+        (now (reach .exit)) (now (parents .exit)) (now (binders .exit))) ⌝ }
 {
     let r = records::node_at(file, t, i);
     if records::is_agent(r) {

@@ -39,9 +39,11 @@ count-requires c κs =
     let p = c .before .before .before .before .before .before .before .pre in
     let l = c .before .before .before .before .loop in
     let arg = c .byte-index in
-    let same = l .inv .1 .0 in
-    let small = counted-below (now (x .binders)) (l .binders) (adds (now (x .file)) (x .at)) (l .k) (l .inv .1) 60000 1 65535 (p .1) (λ k v. one-le _) (omega arith) in
-    (omega (arith, arg .ensures .1), small (arg .result))
+    let same = l .inv .1 .0 in (
+      omega (arith, arg .ensures .1),
+      counted-below (now (x .binders)) (l .binders) (adds (now (x .file)) (x .at)) (l .k) (l .inv .1) 60000 1 65535 (p .1)
+          (λ k v. one-le _) (omega arith) (arg .result),
+    )
 
 loop-again : tie.Need-loop-again Inv-loop μ-loop
 loop-again c =

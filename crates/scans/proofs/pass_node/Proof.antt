@@ -34,21 +34,29 @@ node-at-requires c κs = (c .before .before .before .before .pre .0, c .before .
 
 pass-agent-requires : tie.Need-pass-agent-requires
 pass-agent-requires c κs =
-    let x = at-start (at-shared-slice-known (c .before .before)) .args in
+    let start = at-start (at-shared-slice-known (c .before .before)) in
+    let x = start .args in
     let known = c .before .before .before .before .before .before .shared-slice-known .given (x .t .start + 16 * x .i + 6) in
-    (at-start (at-shared-slice-known (c .before .before)) .pre, (c .before .before .before .before .before .node-at .ensures, rw (c .before .before .before .before .before .node-at .ensures) (omega (arith, known)), sym (c .before .before .before .before .is-agent .ensures) ∙ c .before .before .before .if1 .taken))
+    let read = c .before .before .before .before .before .node-at .ensures in
+    let kind = c .before .before .before .before .is-agent .ensures in
+    let agent = sym kind ∙ c .before .before .before .if1 .taken in
+    (start .pre, (read, rw read (omega (arith, known)), agent))
 
 returns : tie.Need-returns
-returns c e = rw (at-pass-agent-arg (at-reach (c .before)) .before .before .before .node-at .ensures) at (c .before .before .before .before .before .before .pass-agent .ensures e)
+returns c e = let read = at-pass-agent-arg (at-reach (c .before)) .before .before .before .node-at .ensures in rw read at (c .before .before .before .before .before .before .pass-agent .ensures e)
 
 pass-other-requires : tie.Need-pass-other-requires
 pass-other-requires c κs =
-    let x = at-start (at-shared-slice-known-too (c .before .before)) .args in
+    let start = at-start (at-shared-slice-known-too (c .before .before)) in
+    let x = start .args in
     let known = c .before .before .before .before .before .before .shared-slice-known .given (x .t .start + 16 * x .i + 6) in
-    (at-start (at-shared-slice-known-too (c .before .before)) .pre, (c .before .before .before .before .before .node-at .ensures, rw (c .before .before .before .before .before .node-at .ensures) (omega (arith, known)), sym (c .before .before .before .before .is-agent .ensures) ∙ c .before .before .before .if1 .left))
+    let read = c .before .before .before .before .before .node-at .ensures in
+    let kind = c .before .before .before .before .is-agent .ensures in
+    let agent = sym kind ∙ c .before .before .before .if1 .left in
+    (start .pre, (read, rw read (omega (arith, known)), agent))
 
 returns-2 : tie.Need-returns-2
-returns-2 c e = rw (at-pass-other-arg (at-reach2 (c .before)) .before .before .before .node-at .ensures) at (c .before .before .before .before .before .before .pass-other .ensures e)
+returns-2 c e = let read = at-pass-other-arg (at-reach2 (c .before)) .before .before .before .node-at .ensures in rw read at (c .before .before .before .before .before .before .pass-other .ensures e)
 
 pub pass-node-spec : {M : Type 1} → statement M
 pass-node-spec =

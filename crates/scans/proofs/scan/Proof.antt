@@ -65,29 +65,42 @@ pass-node-requires c κs =
     let x = at-start (at-shared-slice-known (at-slice-known4 c)) .args in
     let p = at-start (at-shared-slice-known (at-slice-known4 c)) .pre .0 in
     let l = c .before .before .before .before .before .before .before .loop in
-    (p .0, scanned-ready (now (x .file)) (x .t) (l .reach) (l .parents) (l .binders) (l .i) (l .inv .1) (p .1) (c .before .before .before .before .before .if1 .taken))
+    let here = c .before .before .before .before .before .if1 .taken in
+    (p .0, scanned-ready (now (x .file)) (x .t) (l .reach) (l .parents) (l .binders) (l .i) (l .inv .1) (p .1) here)
 
 same-length-4 : tie.Need-same-length-4 Inv-loop μ-loop
-same-length-4 c = c .before .before .before .before .before .before .before .pass-node .kept .0 ∙ at-slice-known4 (at-pass-node-arg3 (at-parents c)) .before .before .before .loop .inv .1 .rows ∙ sym (ap length (at-start (at-shared-slice-known (at-slice-known4 (at-pass-node-arg3 (at-parents c)))) .pre .1 .0))
+same-length-4 c =
+    let l = at-slice-known4 (at-pass-node-arg3 (at-parents c)) .before .before .before .loop in
+    let none = at-start (at-shared-slice-known (at-slice-known4 (at-pass-node-arg3 (at-parents c)))) .pre .1 in
+    c .before .before .before .before .before .before .before .pass-node .kept .0 ∙ l .inv .1 .rows ∙ sym (ap length (none .0))
 
 same-length-5 : tie.Need-same-length-5 Inv-loop μ-loop
-same-length-5 c = c .before .before .before .before .before .before .before .pass-node .kept .1 .0 ∙ at-slice-known4 (at-pass-node-arg3 (at-parents c)) .before .before .before .loop .inv .1 .fields .0 ∙ sym (ap length (at-start (at-shared-slice-known (at-slice-known4 (at-pass-node-arg3 (at-parents c)))) .pre .1 .1))
+same-length-5 c =
+    let l = at-slice-known4 (at-pass-node-arg3 (at-parents c)) .before .before .before .loop in
+    let none = at-start (at-shared-slice-known (at-slice-known4 (at-pass-node-arg3 (at-parents c)))) .pre .1 in
+    c .before .before .before .before .before .before .before .pass-node .kept .1 .0 ∙ l .inv .1 .fields .0 ∙ sym (ap length (none .1))
 
 same-length-6 : tie.Need-same-length-6 Inv-loop μ-loop
-same-length-6 c = c .before .before .before .before .before .before .before .pass-node .kept .1 .1 .0 ∙ at-slice-known4 (at-pass-node-arg3 (at-parents c)) .before .before .before .loop .inv .1 .counts .0 ∙ sym (ap length (at-start (at-shared-slice-known (at-slice-known4 (at-pass-node-arg3 (at-parents c)))) .pre .1 .2))
+same-length-6 c =
+    let l = at-slice-known4 (at-pass-node-arg3 (at-parents c)) .before .before .before .loop in
+    let none = at-start (at-shared-slice-known (at-slice-known4 (at-pass-node-arg3 (at-parents c)))) .pre .1 in
+    c .before .before .before .before .before .before .before .pass-node .kept .1 .1 .0 ∙ l .inv .1 .counts .0 ∙ sym (ap length (none .2))
 
 returns-2 : tie.Need-returns-2 Inv-loop μ-loop
 returns-2 c e = absurd (false≢true e)
 
 loop-again : tie.Need-loop-again Inv-loop μ-loop
 loop-again c =
-    let x = at-start (at-shared-slice-known (at-slice-known4 (at-pass-node-arg3 (at-parents-too c)))) .args in
+    let start = at-start (at-shared-slice-known (at-slice-known4 (at-pass-node-arg3 (at-parents-too c)))) in
+    let x = start .args in
     let l = at-slice-known4 (at-pass-node-arg3 (at-parents-too c)) .before .before .before .loop in
+    let here = at-slice-known4 (at-pass-node-arg3 (at-parents-too c)) .before .if1 .taken in
+    let count = at-pass-node-arg3 (at-parents-too c) .before .before .before .if2 .left in
     let a = c .before .before .before .before .before .before .before .pass-node in
-    let here = at-slice-known4 (at-pass-node-arg3 (at-parents-too c)) .before .if1 .taken in (
+    let fit = a .ensures (not-false _ (c .if3 .left)) in (
       omega arith,
-      scanned-step (now (x .file)) (x .t) (l .reach) (l .parents) (l .binders) (l .i) (l .inv .1) (at-start (at-shared-slice-known (at-slice-known4 (at-pass-node-arg3 (at-parents-too c)))) .pre .0 .1) here (not-false _ (at-pass-node-arg3 (at-parents-too c) .before .before .before .if2 .left))
-          (a .last .0) (a .last .1 .0) (a .last .1 .1 .0) (a .ensures (not-false _ (c .if3 .left))) (a .kept .0) (a .kept .1 .0) (a .kept .1 .1 .0),
+      scanned-step (now (x .file)) (x .t) (l .reach) (l .parents) (l .binders) (l .i) (l .inv .1) (start .pre .0 .1) here (not-false _ count)
+          (a .last .0) (a .last .1 .0) (a .last .1 .1 .0) fit (a .kept .0) (a .kept .1 .0) (a .kept .1 .1 .0),
     )
 
 bound-once-requires : tie.Need-bound-once-requires Inv-loop μ-loop
