@@ -43,7 +43,9 @@ pass-agent-requires c κs =
     (start .pre, (read, rw read (omega (arith, known)), agent))
 
 returns : tie.Need-returns
-returns c e = let read = at-pass-agent-arg (at-reach (c .before)) .before .before .before .node-at .ensures in rw read at (c .before .before .before .before .before .before .pass-agent .ensures e)
+returns c e =
+    let read = at-pass-agent-arg (at-reach (c .before)) .before .before .before .node-at .ensures in
+    rw read at (c .before .before .before .before .before .before .pass-agent .ensures e)
 
 pass-other-requires : tie.Need-pass-other-requires
 pass-other-requires c κs =
@@ -56,7 +58,9 @@ pass-other-requires c κs =
     (start .pre, (read, rw read (omega (arith, known)), agent))
 
 returns-2 : tie.Need-returns-2
-returns-2 c e = let read = at-pass-other-arg (at-reach2 (c .before)) .before .before .before .node-at .ensures in rw read at (c .before .before .before .before .before .before .pass-other .ensures e)
+returns-2 c e =
+    let read = at-pass-other-arg (at-reach2 (c .before)) .before .before .before .node-at .ensures in
+    rw read at (c .before .before .before .before .before .before .pass-other .ensures e)
 
 pub pass-node-spec : {M : Type 1} → statement M
 pass-node-spec =
