@@ -48,71 +48,80 @@ times-none xs v e =
 
 -- ---- the tables after the nodes below j
 
+pub blank-length : {n : ℕ} (xs : List ℕ) → xs ≡ replicate n 0 → length xs ≡ n
+blank-length {n} xs e = ap length e ∙ length-replicate {A = ℕ} n 0
+
+-- a table that has counted has as many entries as it had
+pub wide : (n : ℕ) {m : ℕ} → m ≡ length {A = ℕ} (replicate n 0) → m ≡ n
+wide n e = e ∙ length-replicate {A = ℕ} n 0
+
 abbrev node : List ℕ → Trailer → ℕ → Node
 node s t k = nodeOf (recordOf s t k)
 
 -- child c of node p, which one field names, has the names of node p and what node p binds
-abbrev Linked : List ℕ → Trailer → List ℕ → List ℕ → ℕ → Type 0
-Linked s t reach parents j =
-    (p c v : ℕ) → p < j → has (children (node s t p)) c ≡ true → c < 1024 → getD parents c 0 ≡ 1 → v < 256
+abbrev Linked : ℕ → List ℕ → Trailer → List ℕ → List ℕ → ℕ → Type 0
+Linked width s t reach parents j =
+    (p c v : ℕ) → p < j → has (children (node s t p)) c ≡ true → c < width → getD parents c 0 ≡ 1 → v < 256
     → marked reach c v ≡ marked reach p v || has (binds (node s t p)) v
 
-pub record Scanned (s : List ℕ) (t : Trailer) (reach parents bound : List ℕ) (j : ℕ) : Type 0 where
+-- the tables have room for width nodes
+pub record Scanned (width : ℕ) (s : List ℕ) (t : Trailer) (reach parents bound : List ℕ) (j : ℕ) : Type 0 where
   pub shapes : first j (badAt 6 s t) ≡ clear
   pub unused : first j (badAt 7 s t) ≡ clear
   pub fits : first j (badAt 8 s t) ≡ clear
-  pub rows : length reach ≡ 4096
-  pub fields : Counted (replicate 1024 0) parents (adds children s t) j
+  pub rows : length reach ≡ 4 * width
+  pub fields : Counted (replicate width 0) parents (adds children s t) j
   pub once : (i : ℕ) → i < j → i ≢ 0 → getD parents i 0 ≡ 1
   pub counts : Counted (replicate 256 0) bound (adds binds s t) j
   pub root : (v : ℕ) → v < 256 → marked reach 0 v ≡ false
-  pub linked : Linked s t reach parents j
+  pub linked : Linked width s t reach parents j
   pub used : (i v : ℕ) → i < j → has (uses (node s t i)) v ≡ true → v < 256 → marked reach i v ≡ true
 
-pub scanned-start : (s : List ℕ) (t : Trailer) → Scanned s t (replicate 4096 0) (replicate 1024 0) (replicate 256 0) 0
-scanned-start s t = record {
+pub scanned-start : (width : ℕ) (s : List ℕ) (t : Trailer) {reach parents bound : List ℕ} → reach ≡ replicate (4 * width) 0
+    → parents ≡ replicate width 0 → bound ≡ replicate 256 0 → Scanned width s t reach parents bound 0
+scanned-start width s t e f g = record {
   shapes = first-zero _;
   unused = first-zero _;
   fits = first-zero _;
-  rows = refl;
-  fields = counted-none (replicate 1024 0) (adds children s t);
+  rows = blank-length _ e;
+  fields = rw f (counted-none (replicate width 0) (adds children s t));
   once = λ i h. absurd (not-suc-le-zero h);
-  counts = counted-none (replicate 256 0) (adds binds s t);
-  root = λ v h. marked-none 4096 0 v;
+  counts = rw g (counted-none (replicate 256 0) (adds binds s t));
+  root = λ v h. rw e (marked-none (4 * width) 0 v);
   linked = λ p c v h. absurd (not-suc-le-zero h);
   used = λ i v h. absurd (not-suc-le-zero h);
 }
 
 -- ---- one node more
 
-module _ (s : List ℕ) (t : Trailer) (reach parents bound : List ℕ) (j : ℕ) (h : Scanned s t reach parents bound j) where
+module _ (width : ℕ) (s : List ℕ) (t : Trailer) (reach parents bound : List ℕ) (j : ℕ) (h : Scanned width s t reach parents bound j) (room : t .nodes ≤ width) where
   -- there is room, since a node adds at most 2 to a count of fields and at most 9 to one of binders
   pub scanned-ready : t .nodes ≤ 1024 → j < t .nodes → Ready (t .nodes) j reach parents bound
   scanned-ready few l = record {
     here = l;
     rows = let e = h .rows in omega arith;
-    nodes = let e = h .fields .0 in omega arith;
+    nodes = let e = wide width (h .fields .0) in omega arith;
     names = h .counts .0;
     fewFields =
-        counted-below (replicate 1024 0) parents (adds children s t) j (h .fields) 1 2 65000 (zeros-below 1024)
+        counted-below (replicate width 0) parents (adds children s t) j (h .fields) 1 2 65000 (zeros-below width)
         (λ k. children-le (recordOf s t k)) (omega arith);
     fewNames =
         counted-below (replicate 256 0) bound (adds binds s t) j (h .counts) 1 9 60000 (zeros-below 256)
         (λ k. binds-le (recordOf s t k) (few-args s (t .start + 16 * k))) (omega arith);
   }
 
-  counted-at : (v : ℕ) → v < 1024 → getD parents v 0 ≡ sum j (λ k. adds children s t k v)
-  counted-at v l = let e = h .fields .1 v (rw length-replicate l) in let z = getD-zeros 1024 v in omega arith
+  counted-at : (v : ℕ) → v < width → getD parents v 0 ≡ sum j (λ k. adds children s t k v)
+  counted-at v l = let e = h .fields .1 v (rw length-replicate l) in let z = getD-zeros width v in omega arith
 
   -- a child of a node that was passed is counted
-  counted-child : (p c : ℕ) → p < j → has (children (node s t p)) c ≡ true → c < 1024 → 1 ≤ getD parents c 0
+  counted-child : (p c : ℕ) → p < j → has (children (node s t p)) c ≡ true → c < width → 1 ≤ getD parents c 0
   counted-child p c l e k =
       omega (arith, counted-at c k, sum-one j (λ i. adds children s t i c) p l, has-times (children (node s t p)) c e)
 
-  module _ (few : t .nodes ≤ 1024) (l : j < t .nodes) (count : eqb j 0 || eqb (getD parents j 0) 1 ≡ true) (reach′ parents′ bound′ : List ℕ)
+  module _ (l : j < t .nodes) (count : eqb j 0 || eqb (getD parents j 0) 1 ≡ true) (reach′ parents′ bound′ : List ℕ)
       (fit : Passed (t .nodes) j (recordOf s t j) reach parents bound reach′ parents′ bound′) where
-    more-at : (c : ℕ) → c < 1024 → getD parents′ c 0 ≡ getD parents c 0 + times (children (node s t j)) c
-    more-at c k = fit .fields c (let e = h .fields .0 in let z : length {A = ℕ} (replicate 1024 0) ≡ 1024 = length-replicate {A = ℕ} 1024 0 in omega arith)
+    more-at : (c : ℕ) → c < width → getD parents′ c 0 ≡ getD parents c 0 + times (children (node s t j)) c
+    more-at c k = fit .fields c (let e = wide width (h .fields .0) in omega arith)
 
     -- nothing that is written concerns a node up to j
     same-count : (i : ℕ) → i ≤ j → getD parents′ i 0 ≡ getD parents i 0
@@ -133,7 +142,7 @@ module _ (s : List ℕ) (t : Trailer) (reach parents bound : List ℕ) (j : ℕ)
             (or-split (eqb j 0) (eqb (getD parents j 0) 1) count)
         go (inr q) = h .once i q n
 
-    linked-more : Linked s t reach′ parents′ (j + 1)
+    linked-more : Linked width s t reach′ parents′ (j + 1)
     linked-more p c v k e b one w = go (eq-or-lt-of-le (omega arith))
       where
         go : (p ≡ j) ⊎ (p < j) → marked reach′ c v ≡ marked reach′ p v || has (binds (node s t p)) v
@@ -156,14 +165,14 @@ module _ (s : List ℕ) (t : Trailer) (reach parents bound : List ℕ) (j : ℕ)
         go (inr q) = h .used i v q e w
 
     pub scanned-step : length reach′ ≡ length reach → length parents′ ≡ length parents → length bound′ ≡ length bound
-        → Scanned s t reach′ parents′ bound′ (j + 1)
+        → Scanned width s t reach′ parents′ bound′ (j + 1)
     unfolding badAt
     scanned-step er ep eb = record {
       shapes = first-pass _ j (h .shapes) (clear-test _ _ (fit .shape));
       unused = first-pass _ j (h .unused) (clear-test _ _ (fit .zeros));
       fits = first-pass _ j (h .fits) (clear-test _ _ (fit .above));
       rows = er ∙ h .rows;
-      fields = counted-more (replicate 1024 0) parents (adds children s t) j (h .fields) parents′ ep (fit .fields);
+      fields = counted-more (replicate width 0) parents (adds children s t) j (h .fields) parents′ ep (fit .fields);
       once = once-more;
       counts = counted-more (replicate 256 0) bound (adds binds s t) j (h .counts) bound′ eb (fit .bound);
       root = λ v w. early-row 0 v w (omega arith) ∙ h .root v w;
@@ -188,8 +197,8 @@ unfolding all
 all-join f [] ys e g = g
 all-join f (x ∷ xs) ys e g = let s = and-split (f x) (all f xs) e in rw (s .0) (all-join f xs ys (s .1) g)
 
-module _ (s : List ℕ) (t : Trailer) (reach parents bound : List ℕ) (h : Scanned s t reach parents bound (t .nodes))
-    (few : t .nodes ≤ 1024) (bytes : (k : ℕ) → getD s k 0 < 256) where
+module _ (width : ℕ) (s : List ℕ) (t : Trailer) (reach parents bound : List ℕ) (h : Scanned width s t reach parents bound (t .nodes))
+    (room : t .nodes ≤ width) (bytes : (k : ℕ) → getD s k 0 < 256) where
   abbrev a : Array
   a = arrayOf s t
 
@@ -205,7 +214,7 @@ module _ (s : List ℕ) (t : Trailer) (reach parents bound : List ℕ) (h : Scan
       go i l (inl e) = rw e
       go i l (inr e) =
           or-right (eqb i 0) _
-          (eq-eqb _ 1 (sym (counted-all children s t 1024 parents (h .fields) i (omega arith)) ∙ h .once i l (eqb-false i 0 e)))
+          (eq-eqb _ 1 (sym (counted-all children s t width parents (h .fields) i (omega arith)) ∙ h .once i l (eqb-false i 0 e)))
 
   -- the rows are right: from a parent's to its child's
   row-right : (i v : ℕ) → i < t .nodes → v < 256 → ((p : ℕ) → p < i → p < t .nodes → marked reach p v ≡ inReach a v p)

@@ -218,7 +218,8 @@ fn scan(
     t: Trailer,
 ) -> bool
     requires { ⌜ RecordsFit (now file) t × (t .nodes ≤ 1024) × (t .names ≤ 256) ⌝ }
-    requires { ⌜ (now reach ≡ replicate 4096 0) × (now parents ≡ replicate 1024 0) × (now binders ≡ replicate 256 0) ⌝ }
+    requires { ⌜ (now reach ≡ replicate (4 * length (now parents)) 0) × (now parents ≡ replicate (length (now parents)) 0) ⌝ }
+    requires { ⌜ (now binders ≡ replicate 256 0) × (t .nodes ≤ length (now parents)) ⌝ }
     ensures { λ b. ⌜ (b ≡ true → Clear (now (file .entry)) t) ⌝ }
 {
     let mut i: usize = 0;
@@ -234,8 +235,19 @@ fn scan(
     bound_once(binders, t.names)
 }
 
-// Yes only where none of the refusals 6 to 12 comes.
-pub fn passes(file: &[u8], t: Trailer) -> bool
+// The pass over tables for 64 nodes, which are cleared the faster.
+fn scan_few(file: &[u8], t: Trailer) -> bool
+    requires { ⌜ RecordsFit (now file) t × (t .nodes ≤ 64) × (t .names ≤ 256) ⌝ }
+    ensures { λ b. ⌜ (b ≡ true → Clear (now (file .entry)) t) ⌝ }
+{
+    let mut reach = [0u64; 256];
+    let mut parents = [0u16; 64];
+    let mut binders = [0u16; 256];
+    scan(&mut reach, &mut parents, &mut binders, file, t)
+}
+
+// The pass over tables for as many nodes as there may be.
+fn scan_many(file: &[u8], t: Trailer) -> bool
     requires { ⌜ RecordsFit (now file) t × (t .nodes ≤ 1024) × (t .names ≤ 256) ⌝ }
     ensures { λ b. ⌜ (b ≡ true → Clear (now (file .entry)) t) ⌝ }
 {
@@ -243,4 +255,15 @@ pub fn passes(file: &[u8], t: Trailer) -> bool
     let mut parents = [0u16; 1024];
     let mut binders = [0u16; 256];
     scan(&mut reach, &mut parents, &mut binders, file, t)
+}
+
+// Yes only where none of the refusals 6 to 12 comes.
+pub fn passes(file: &[u8], t: Trailer) -> bool
+    requires { ⌜ RecordsFit (now file) t × (t .nodes ≤ 1024) × (t .names ≤ 256) ⌝ }
+    ensures { λ b. ⌜ (b ≡ true → Clear (now (file .entry)) t) ⌝ }
+{
+    if t.nodes <= 64 {
+        return scan_few(file, t);
+    }
+    scan_many(file, t)
 }

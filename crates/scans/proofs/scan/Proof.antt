@@ -7,12 +7,12 @@ use denote.Ref.{now}
 use lib.ListN.{length}
 use borrow.Author.Needs.{needs}
 use borrow.Author.Tests.{not-false}
-use Rattle.scans.proofs.Laws.{Scanned, scanned-start, scanned-ready, scanned-step, scanned-clear}
+use Rattle.scans.proofs.Laws.{blank-length, wide, Scanned, scanned-start, scanned-ready, scanned-step, scanned-clear}
 use Rattle.scans.proofs.scan.Statement.{statement}
 use Rattle.scans.proofs.scan.Tie as tie
 
 abbrev Inv-loop : tie.InvT-loop
-Inv-loop reach₀ parents₀ binders₀ file t i₀ reach parents binders i = (i ≤ t .nodes) × Scanned file t reach parents binders i
+Inv-loop reach₀ parents₀ binders₀ file t i₀ reach parents binders i = (i ≤ t .nodes) × Scanned (length parents₀) file t reach parents binders i
 
 abbrev μ-loop : tie.MeasureT-loop
 μ-loop reach₀ parents₀ binders₀ file t i₀ reach parents binders i = t .nodes - i
@@ -42,20 +42,24 @@ at-shared-slice-known-too c = c .before .before .before .before
 loop-holds : tie.Need-loop-holds Inv-loop μ-loop
 loop-holds c =
     let x = c .before .before .before .before .args in
-    let none = c .before .before .before .before .pre .1 in
-    (omega arith, rw (none .0, none .1, none .2) (scanned-start (now (x .file)) (x .t)))
+    let p = c .before .before .before .before .pre .1 in
+    (omega arith, scanned-start (length (now (x .parents))) (now (x .file)) (x .t) (p .0 .0) (p .0 .1) (p .1 .0))
 
 slice-read-if2 : tie.Need-slice-read-if2 Inv-loop μ-loop
-slice-read-if2 c = let same = c .before .before .before .loop .inv .1 .fields .0 in omega arith
+slice-read-if2 c =
+    let x = c .before .before .before .before .before .before .before .before .args in
+    let same = wide (length (now (x .parents))) (c .before .before .before .loop .inv .1 .fields .0) in
+    let room = c .before .before .before .before .before .before .before .before .pre .1 .1 .1 in
+    omega arith
 
 same-length : tie.Need-same-length Inv-loop μ-loop
-same-length c = c .before .before .before .before .loop .inv .1 .rows ∙ sym (ap length (at-start (at-shared-slice-known (c .before)) .pre .1 .0))
+same-length c = c .before .before .before .before .loop .inv .1 .rows ∙ sym (blank-length _ (at-start (at-shared-slice-known (c .before)) .pre .1 .0 .0))
 
 same-length-2 : tie.Need-same-length-2 Inv-loop μ-loop
-same-length-2 c = c .before .before .before .before .loop .inv .1 .fields .0 ∙ sym (ap length (at-start (at-shared-slice-known (c .before)) .pre .1 .1))
+same-length-2 c = wide _ (c .before .before .before .before .loop .inv .1 .fields .0)
 
 same-length-3 : tie.Need-same-length-3 Inv-loop μ-loop
-same-length-3 c = c .before .before .before .before .loop .inv .1 .counts .0 ∙ sym (ap length (at-start (at-shared-slice-known (c .before)) .pre .1 .2))
+same-length-3 c = c .before .before .before .before .loop .inv .1 .counts .0 ∙ sym (ap length (at-start (at-shared-slice-known (c .before)) .pre .1 .1 .0))
 
 returns : tie.Need-returns Inv-loop μ-loop
 returns c e = absurd (false≢true e)
@@ -63,28 +67,29 @@ returns c e = absurd (false≢true e)
 pass-node-requires : tie.Need-pass-node-requires Inv-loop μ-loop
 pass-node-requires c κs =
     let x = at-start (at-shared-slice-known (at-slice-known4 c)) .args in
-    let p = at-start (at-shared-slice-known (at-slice-known4 c)) .pre .0 in
+    let p = at-start (at-shared-slice-known (at-slice-known4 c)) .pre in
     let l = c .before .before .before .before .before .before .before .loop in
-    let here = c .before .before .before .before .before .if1 .taken in
-    (p .0, scanned-ready (now (x .file)) (x .t) (l .reach) (l .parents) (l .binders) (l .i) (l .inv .1) (p .1) here)
+    let here = c .before .before .before .before .before .if1 .taken in (
+      p .0 .0,
+      scanned-ready _ (now (x .file)) (x .t) (l .reach) (l .parents) (l .binders) (l .i) (l .inv .1) (p .1 .1 .1) (p .0 .1) here,
+    )
 
 same-length-4 : tie.Need-same-length-4 Inv-loop μ-loop
 same-length-4 c =
     let l = at-slice-known4 (at-pass-node-arg3 (at-parents c)) .before .before .before .loop in
-    let none = at-start (at-shared-slice-known (at-slice-known4 (at-pass-node-arg3 (at-parents c)))) .pre .1 in
-    c .before .before .before .before .before .before .before .pass-node .kept .0 ∙ l .inv .1 .rows ∙ sym (ap length (none .0))
+    let none = at-start (at-shared-slice-known (at-slice-known4 (at-pass-node-arg3 (at-parents c)))) .pre .1 .0 .0 in
+    c .before .before .before .before .before .before .before .pass-node .kept .0 ∙ l .inv .1 .rows ∙ sym (blank-length _ none)
 
 same-length-5 : tie.Need-same-length-5 Inv-loop μ-loop
 same-length-5 c =
     let l = at-slice-known4 (at-pass-node-arg3 (at-parents c)) .before .before .before .loop in
-    let none = at-start (at-shared-slice-known (at-slice-known4 (at-pass-node-arg3 (at-parents c)))) .pre .1 in
-    c .before .before .before .before .before .before .before .pass-node .kept .1 .0 ∙ l .inv .1 .fields .0 ∙ sym (ap length (none .1))
+    c .before .before .before .before .before .before .before .pass-node .kept .1 .0 ∙ wide _ (l .inv .1 .fields .0)
 
 same-length-6 : tie.Need-same-length-6 Inv-loop μ-loop
 same-length-6 c =
     let l = at-slice-known4 (at-pass-node-arg3 (at-parents c)) .before .before .before .loop in
-    let none = at-start (at-shared-slice-known (at-slice-known4 (at-pass-node-arg3 (at-parents c)))) .pre .1 in
-    c .before .before .before .before .before .before .before .pass-node .kept .1 .1 .0 ∙ l .inv .1 .counts .0 ∙ sym (ap length (none .2))
+    let none = at-start (at-shared-slice-known (at-slice-known4 (at-pass-node-arg3 (at-parents c)))) .pre .1 .1 .0 in
+    c .before .before .before .before .before .before .before .pass-node .kept .1 .1 .0 ∙ l .inv .1 .counts .0 ∙ sym (ap length none)
 
 returns-2 : tie.Need-returns-2 Inv-loop μ-loop
 returns-2 c e = absurd (false≢true e)
@@ -99,7 +104,7 @@ loop-again c =
     let a = c .before .before .before .before .before .before .before .pass-node in
     let fit = a .ensures (not-false _ (c .if3 .left)) in (
       omega arith,
-      scanned-step (now (x .file)) (x .t) (l .reach) (l .parents) (l .binders) (l .i) (l .inv .1) (start .pre .0 .1) here (not-false _ count)
+      scanned-step _ (now (x .file)) (x .t) (l .reach) (l .parents) (l .binders) (l .i) (l .inv .1) (start .pre .1 .1 .1) here (not-false _ count)
           (a .last .0) (a .last .1 .0) (a .last .1 .1 .0) fit (a .kept .0) (a .kept .1 .0) (a .kept .1 .1 .0),
     )
 
@@ -107,23 +112,23 @@ bound-once-requires : tie.Need-bound-once-requires Inv-loop μ-loop
 bound-once-requires c κs = c .before .before .before .loop .inv .1 .counts .0
 
 same-length-7 : tie.Need-same-length-7 Inv-loop μ-loop
-same-length-7 c = c .before .before .before .before .loop .inv .1 .rows ∙ sym (ap length (at-start (at-shared-slice-known-too (c .before)) .pre .1 .0))
+same-length-7 c = c .before .before .before .before .loop .inv .1 .rows ∙ sym (blank-length _ (at-start (at-shared-slice-known-too (c .before)) .pre .1 .0 .0))
 
 same-length-8 : tie.Need-same-length-8 Inv-loop μ-loop
-same-length-8 c = c .before .before .before .before .loop .inv .1 .fields .0 ∙ sym (ap length (at-start (at-shared-slice-known-too (c .before)) .pre .1 .1))
+same-length-8 c = wide _ (c .before .before .before .before .loop .inv .1 .fields .0)
 
 same-length-9 : tie.Need-same-length-9 Inv-loop μ-loop
-same-length-9 c = c .before .before .before .before .loop .inv .1 .counts .0 ∙ sym (ap length (at-start (at-shared-slice-known-too (c .before)) .pre .1 .2))
+same-length-9 c = c .before .before .before .before .loop .inv .1 .counts .0 ∙ sym (ap length (at-start (at-shared-slice-known-too (c .before)) .pre .1 .1 .0))
 
 returns-3 : tie.Need-returns-3 Inv-loop μ-loop
 returns-3 c e =
     let x = at-start (at-shared-slice-known-too (c .before)) .args in
-    let p = at-start (at-shared-slice-known-too (c .before)) .pre .0 in
+    let p = at-start (at-shared-slice-known-too (c .before)) .pre in
     let l = c .before .before .before .before .loop in
     let all : l .i ≡ x .t .nodes = omega arith in
     let known = c .before .before .before .before .before .shared-slice-known .given in
-    scanned-clear (now (x .file)) (x .t) (l .reach) (l .parents) (l .binders) (rw all at (l .inv .1)) (p .1) (λ k. omega (arith, known k))
-    (p .2) (sym (c .bound-once .ensures) ∙ e)
+    scanned-clear _ (now (x .file)) (x .t) (l .reach) (l .parents) (l .binders) (rw all at (l .inv .1)) (p .1 .1 .1) (λ k. omega (arith, known k))
+    (p .0 .2) (sym (c .bound-once .ensures) ∙ e)
 
 pub scan-spec : {M : Type 1} → statement M
 scan-spec =
