@@ -4,7 +4,7 @@ use native.Mathlib.Nat.{eq-or-lt-of-le}
 use native.Mathlib.Omega.{arith}
 use mathlib.Core.Path.{_≡_, refl, sym, ap, ap₂, _∙_}
 use mathlib.Core.Logic.{⊎-elim}
-use mathlib.Core.Bool.{true, false, cond, _||_, true≢false}
+use mathlib.Core.Bool.{true, cond}
 use mathlib.Core.List.{List, [], _∷_}
 use lib.ListN.{length, set}
 use lib.Seq.{getD-set-same, getD-set-other}
@@ -19,7 +19,7 @@ use Rattle.model.proofs.Bounds.{load-bound}
 use Rattle.records.specs.declared.Record.{Record}
 use Rattle.records.specs.declared.Trailer.{Trailer}
 use Rattle.records.specs.Record.{recordOf, nodeOf, arrayOf}
-use Rattle.records.specs.Kinds.{isStop, isNewNode, isPar, isChoice}
+use Rattle.records.specs.Kinds.{isStop, isNewNode, isPar}
 use Rattle.records.proofs.Laws.{node-read, child-of}
 use Rattle.records.proofs.KindLaws.{by-node}
 use Rattle.loads.specs.Loads.{entryIndex, loadIn, Half, loadFrom, FilledFrom}
@@ -46,14 +46,6 @@ unfolding loadOf isAgent isStop isNewNode isPar
 load-node loads r k w =
     by-node r (λ n. loadOf (λ i. w) 0 (λ c. loadIn loads c k) n ≡ byNode n w (loadIn loads (r .left) k) (loadIn loads (r .right) k))
     refl refl refl refl refl
-
--- what is neither agent nor stop nor new has two children
-pub rest-branches : (r : Record) → isAgent (nodeOf r) ≡ false → isStop (nodeOf r) ≡ false → isNewNode (nodeOf r) ≡ false
-    → isPar (nodeOf r) || isChoice (nodeOf r) ≡ true
-unfolding isAgent isStop isNewNode isPar isChoice
-rest-branches r =
-    by-node r (λ n. isAgent n ≡ false → isStop n ≡ false → isNewNode n ≡ false → isPar n || isChoice n ≡ true)
-    (λ e f g. absurd (true≢false f)) (λ e f g. absurd (true≢false g)) (λ e f g. refl) (λ e f g. refl) (λ e f g. absurd (true≢false e))
 
 -- ---- the list while node i's row is filled
 

@@ -5,7 +5,7 @@ use mathlib.Core.Path.{_≡_, refl, sym, ap, _∙_}
 use mathlib.Core.Logic.{inl, inr}
 use mathlib.Core.Bool.{Bool, true, false, not, _&&_, _||_, false≢true, true≢false, or-false}
 use lib.Dec.{eqb, leb, ltb}
-use borrow.Author.Tests.{lt-ltb, le-leb, eqb-true, eqb-false, eq-eqb, ne-eqb}
+use borrow.Author.Tests.{lt-ltb, le-leb, eqb-true, eqb-false, eq-eqb, ne-eqb, not-true, not-false}
 use Rattle.laws.specs.Lists.{has}
 use Rattle.laws.proofs.Search.{decided, and-join, or-left, or-right}
 use Rattle.model.specs.Tree.{Sort, out, inp, resource, Node, isAgent, receives}
@@ -181,6 +181,43 @@ module _ (r : Record) where
       go out e f = absurd (false≢true e)
       go inp e f = refl
       go resource e f = absurd (true≢false f)
+
+  -- ---- the kinds apart
+
+  pub agent-one : isAgent (nodeOf r) ≡ true → isPar (nodeOf r) || isChoice (nodeOf r) ≡ false
+  unfolding isPar isChoice
+  agent-one e = rw (agent-is e)
+
+  pub agent-opens : isAgent (nodeOf r) ≡ true → isNewNode (nodeOf r) ≡ false
+  unfolding isNewNode
+  agent-opens e = rw (agent-is e)
+
+  pub out-binds : isAgent (nodeOf r) ≡ true → isOut (nodeOf r) ≡ true → isReceiver (nodeOf r) ≡ false
+  out-binds e o = let s = agent-sort e in s .0 ∙ not-true (receives _) (sym (s .1) ∙ o)
+
+  pub in-binds : isAgent (nodeOf r) ≡ true → isOut (nodeOf r) ≡ false → isReceiver (nodeOf r) ≡ true
+  in-binds e o = let s = agent-sort e in s .0 ∙ not-false (receives _) (sym (s .1) ∙ o)
+
+  pub other-binds : isAgent (nodeOf r) ≡ false → isReceiver (nodeOf r) ≡ false
+  unfolding isAgent isReceiver
+  other-binds =
+      by-node (λ n. isAgent n ≡ false → isReceiver n ≡ false) (λ e. refl) (λ e. refl) (λ e. refl) (λ e. refl) (λ e. absurd (true≢false e))
+
+  pub stop-one : isStop (nodeOf r) ≡ true → (isPar (nodeOf r) || isChoice (nodeOf r) ≡ false) × (isNewNode (nodeOf r) ≡ false)
+  unfolding isPar isChoice isNewNode
+  stop-one e = rw (stop-is e) (refl, refl)
+
+  pub new-one : isNewNode (nodeOf r) ≡ true → isPar (nodeOf r) || isChoice (nodeOf r) ≡ false
+  unfolding isPar isChoice
+  new-one e = rw (new-is e)
+
+  -- what is neither agent nor stop nor new has two children
+  pub rest-branches : isAgent (nodeOf r) ≡ false → isStop (nodeOf r) ≡ false → isNewNode (nodeOf r) ≡ false
+      → isPar (nodeOf r) || isChoice (nodeOf r) ≡ true
+  unfolding isAgent isStop isNewNode isPar isChoice
+  rest-branches =
+      by-node (λ n. isAgent n ≡ false → isStop n ≡ false → isNewNode n ≡ false → isPar n || isChoice n ≡ true)
+      (λ a s n. absurd (true≢false s)) (λ a s n. absurd (true≢false n)) (λ a s n. refl) (λ a s n. refl) (λ a s n. absurd (true≢false a))
 
   -- ---- children
 

@@ -1,35 +1,32 @@
 -- The pass: what the tables hold while nodes are passed (`Scanned`), one node more, and what follows at the end.
 use Prim.Native.Nat.{ℕ, zero, suc, _+_, _*_, _≤_, _<_}
-use native.Mathlib.Nat.{eq-or-lt-of-le, not-suc-le-zero, le-of-suc-le-suc}
+use native.Mathlib.Nat.{eq-or-lt-of-le, not-suc-le-zero}
 use native.Mathlib.Omega.{arith}
 use mathlib.Core.Path.{_≡_, refl, sym, ap, _∙_}
 use mathlib.Core.Logic.{_⊎_, inl, inr, _≢_, ⊎-elim}
-use mathlib.Core.Bool.{Bool, true, false, cond, _&&_, _||_, false≢true, or-comm}
+use mathlib.Core.Bool.{Bool, true, false, _&&_, _||_, false≢true, or-comm}
 use mathlib.Core.List.{List, [], _∷_, _++_}
 use lib.Dec.{eqb, leb, ltb}
 use lib.ListN.{length, getD, replicate, length-replicate}
-use borrow.Author.Tests.{eqb-true, eqb-false, ltb-true, ltb-false, eq-eqb, lt-ltb, le-ltb, lt-leb}
-use Rattle.laws.specs.Search.{clear, first, every, sum, any}
-use Rattle.laws.specs.Lists.{All, all, has, times}
+use borrow.Author.Tests.{eqb-true, eqb-false, eq-eqb, lt-leb}
+use Rattle.laws.specs.Search.{clear, first, every, sum}
+use Rattle.laws.specs.Lists.{all, has, times}
 use Rattle.laws.proofs.Search.{decided, and-split, or-split, or-right, test-clear, clear-test, first-zero, first-pass, first-clear, clear-first}
 use Rattle.laws.proofs.Search.{every-true, any-true, sum-one}
 use Rattle.laws.proofs.Lists.{All-has, all-has, has-all, has-times, times-has, getD-zeros}
 use Rattle.marks.specs.Marks.{marked}
 use Rattle.marks.proofs.Laws.{marked-none}
 use Rattle.model.specs.Tree.{Array, Node, nodeAt}
-use Rattle.model.specs.Formed.{children, binds, uses, childFits, refuse, fieldsTo, binders, reaches, inReach}
+use Rattle.model.specs.Formed.{children, binds, uses, fieldsTo, binders, reaches, inReach}
 use Rattle.model.specs.Formed.{refusal8, refusal9, refusal10, refusal11, refusal12}
 use Rattle.model.proofs.Tree.{parent-below}
 use Rattle.model.proofs.Reach.{parent, reach-root, reach-child}
-use Rattle.records.specs.declared.Record.{Record}
 use Rattle.records.specs.declared.Trailer.{Trailer}
 use Rattle.records.specs.Record.{recordOf, nodeOf, arrayOf}
 use Rattle.records.proofs.Laws.{node-of}
-use Rattle.fields.specs.Fields.{shapeFits, unusedZero, childrenFit, badAt, firstBad}
+use Rattle.fields.specs.Fields.{badAt, firstBad}
 use Rattle.fields.proofs.Laws.{first-bad-6, first-bad-7, first-bad-8}
-use Rattle.counts.specs.Counts.{Grown}
 use Rattle.counts.proofs.Laws.{Counted, counted-none, counted-more, counted-below, zeros-below, few-args, children-le, binds-le, adds, counted-all}
-use Rattle.scopes.specs.Scope.{HandedDown}
 use Rattle.scopes.proofs.Table.{uses-bytes, binds-bytes}
 use Rattle.scans.proofs.Node.{no-child}
 use Rattle.scans.specs.Pass.{Clear, countFits, Ready, Passed}
@@ -94,7 +91,8 @@ scanned-start width s t e f g = record {
 
 -- ---- one node more
 
-module _ (width : ℕ) (s : List ℕ) (t : Trailer) (reach parents bound : List ℕ) (j : ℕ) (h : Scanned width s t reach parents bound j) (room : t .nodes ≤ width) where
+module _ (width : ℕ) (s : List ℕ) (t : Trailer) (reach parents bound : List ℕ) (j : ℕ) (h : Scanned width s t reach parents bound j)
+    (room : t .nodes ≤ width) where
   -- there is room, since a node adds at most 2 to a count of fields and at most 9 to one of binders
   pub scanned-ready : t .nodes ≤ 1024 → j < t .nodes → Ready (t .nodes) j reach parents bound
   scanned-ready few l = record {

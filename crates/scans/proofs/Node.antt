@@ -3,16 +3,16 @@ use Prim.Native.Nat.{ℕ, _+_, _*_, _≤_, _<_}
 use native.Mathlib.Omega.{arith}
 use mathlib.Core.Path.{_≡_, refl, sym, _∙_}
 use mathlib.Core.Logic.{⊎-elim}
-use mathlib.Core.Bool.{Bool, true, false, not, _&&_, _||_, true≢false, or-false}
+use mathlib.Core.Bool.{Bool, true, false, _&&_, _||_, or-false}
 use mathlib.Core.List.{List}
 use lib.Dec.{eqb, leb, ltb}
 use lib.ListN.{length, getD, replicate}
-use borrow.Author.Tests.{not-true, not-false, ltb-true, leb-true}
+use borrow.Author.Tests.{ltb-true, leb-true}
 use Rattle.laws.specs.Search.{every, any, sum}
 use Rattle.laws.specs.Lists.{one, all, has, times}
 use Rattle.laws.proofs.Search.{decided, and-split, and-join}
 use Rattle.laws.proofs.Lists.{one-le, all-has}
-use Rattle.model.specs.Tree.{isAgent, receives}
+use Rattle.model.specs.Tree.{isAgent}
 use Rattle.model.specs.Memory.{isOut}
 use Rattle.model.specs.Formed.{children, binds, uses, childFits}
 use Rattle.marks.specs.Marks.{HasRow, marked}
@@ -32,41 +32,6 @@ use Rattle.scans.specs.Pass.{recordFits, argAt, RestZero, Ready, Passed}
 use Rattle.scans.proofs.Args.{args-all, args-has, args-times, rest-zeros}
 
 module _ (r : Record) where
-  -- ---- the kinds apart
-
-  pub agent-one : isAgent (nodeOf r) ≡ true → isPar (nodeOf r) || isChoice (nodeOf r) ≡ false
-  unfolding isPar isChoice
-  agent-one e = rw (K.agent-is r e)
-
-  pub agent-opens : isAgent (nodeOf r) ≡ true → isNewNode (nodeOf r) ≡ false
-  unfolding isNewNode
-  agent-opens e = rw (K.agent-is r e)
-
-  pub out-binds : isAgent (nodeOf r) ≡ true → isOut (nodeOf r) ≡ true → isReceiver (nodeOf r) ≡ false
-  out-binds e o = let s = K.agent-sort r e in s .0 ∙ not-true (receives _) (sym (s .1) ∙ o)
-
-  pub in-binds : isAgent (nodeOf r) ≡ true → isOut (nodeOf r) ≡ false → isReceiver (nodeOf r) ≡ true
-  in-binds e o = let s = K.agent-sort r e in s .0 ∙ not-false (receives _) (sym (s .1) ∙ o)
-
-  pub other-binds : isAgent (nodeOf r) ≡ false → isReceiver (nodeOf r) ≡ false
-  unfolding isAgent isReceiver
-  other-binds =
-      K.by-node r (λ n. isAgent n ≡ false → isReceiver n ≡ false) (λ e. refl) (λ e. refl) (λ e. refl) (λ e. refl) (λ e. absurd (true≢false e))
-
-  pub stop-one : isStop (nodeOf r) ≡ true → (isPar (nodeOf r) || isChoice (nodeOf r) ≡ false) × (isNewNode (nodeOf r) ≡ false)
-  unfolding isPar isChoice isNewNode
-  stop-one e = rw (K.stop-is r e) (refl, refl)
-
-  pub new-one : isNewNode (nodeOf r) ≡ true → isPar (nodeOf r) || isChoice (nodeOf r) ≡ false
-  unfolding isPar isChoice
-  new-one e = rw (K.new-is r e)
-
-  pub rest-two : isAgent (nodeOf r) ≡ false → isStop (nodeOf r) ≡ false → isNewNode (nodeOf r) ≡ false → isPar (nodeOf r) || isChoice (nodeOf r) ≡ true
-  unfolding isAgent isStop isNewNode isPar isChoice
-  rest-two =
-      K.by-node r (λ n. isAgent n ≡ false → isStop n ≡ false → isNewNode n ≡ false → isPar n || isChoice n ≡ true)
-      (λ a s n. absurd (true≢false s)) (λ a s n. absurd (true≢false n)) (λ a s n. refl) (λ a s n. refl) (λ a s n. absurd (true≢false a))
-
   -- ---- the names that it uses
 
   module _ (f : ℕ → Bool) where
@@ -117,7 +82,7 @@ module _ (r : Record) where
 
     pub none-fields : (t : List ℕ) → Grown t t (times (children (nodeOf r)))
     unfolding one
-    none-fields t v l = let e = rw (stop-one last .0, last) at (times-children r v) in omega arith
+    none-fields t v l = let e = rw (K.stop-one r last .0, last) at (times-children r v) in omega arith
 
   module _ (goes : isStop (nodeOf r) ≡ false) (single : isPar (nodeOf r) || isChoice (nodeOf r) ≡ false) where
     pub one-down : (reach : List ℕ) (j : ℕ) (bound : List ℕ) → ((c : ℕ) → has (children (nodeOf r)) c ≡ true → (j < c) × HasRow reach c)
@@ -222,33 +187,33 @@ module _ {m i : ℕ} {reach parents binders : List ℕ} (ready : Ready m i reach
           → reach′ ≡ passed reach i (r .left) (replicate 4 0) 4 → Passed m i r reach parents binders reach′ parents′ binders
       out-passes out sent e =
           let args = args-all s t i inside (rw is at small-arity) (marked reach i) in
-          let none = out-binds r agent out in
+          let none = K.out-binds r agent out in
           passes reach′ parents′ binders (out-uses r (marked reach i) agent out channel (rw is (sym args ∙ (rw is at sent))))
-          (rw e (one-down r goes (agent-one r agent) reach i (replicate 4 0) rows-there (none-row r (agent-opens r agent) none)))
-          (one-field r goes (agent-one r agent) parents parents′ counted)
-          (none-counted r (agent-opens r agent) none binders)
+          (rw e (one-down r goes (K.agent-one r agent) reach i (replicate 4 0) rows-there (none-row r (K.agent-opens r agent) none)))
+          (one-field r goes (K.agent-one r agent) parents parents′ counted)
+          (none-counted r (K.agent-opens r agent) none binders)
 
       pub in-passes : isOut (nodeOf r) ≡ false → (row binders′ : List ℕ)
           → ((v : ℕ) → marked row 0 v ≡ any (r .arity) (λ k. eqb v (argAt s (t .start + 16 * i + 8) k)))
           → Grown binders binders′ (λ v. sum (r .arity) (λ k. one (eqb v (argAt s (t .start + 16 * i + 8) k))))
           → reach′ ≡ passed reach i (r .left) row 4 → Passed m i r reach parents binders reach′ parents′ binders′
       in-passes other row binders′ marks grown e =
-          let binds-args = in-binds r agent other in
+          let binds-args = K.in-binds r agent other in
           let has-args : (v : ℕ) → any (r .arity) (λ k. eqb v (argAt s (t .start + 16 * i + 8) k)) ≡ has (argsOf r) v =
           rw is (args-has s t i inside (rw is at small-arity)) in
           let times-args : (v : ℕ) → sum (r .arity) (λ k. one (eqb v (argAt s (t .start + 16 * i + 8) k))) ≡ times (argsOf r) v =
           rw is (args-times s t i inside (rw is at small-arity)) in
           passes reach′ parents′ binders′ (in-uses r (marked reach i) agent other channel)
-          (rw e (one-down r goes (agent-one r agent) reach i row rows-there
-          (args-row r (agent-opens r agent) binds-args row (λ v. marks v ∙ has-args v))))
-          (one-field r goes (agent-one r agent) parents parents′ counted)
-          (args-counted r (agent-opens r agent) binds-args binders binders′ (λ v l. omega (arith, grown v l, times-args v)))
+          (rw e (one-down r goes (K.agent-one r agent) reach i row rows-there
+          (args-row r (K.agent-opens r agent) binds-args row (λ v. marks v ∙ has-args v))))
+          (one-field r goes (K.agent-one r agent) parents parents′ counted)
+          (args-counted r (K.agent-opens r agent) binds-args binders binders′ (λ v l. omega (arith, grown v l, times-args v)))
 
     module _ (other : isAgent (nodeOf r) ≡ false) where
       pub stop-passes : isStop (nodeOf r) ≡ true → Passed m i r reach parents binders reach parents binders
       stop-passes last =
           passes reach parents binders (other-uses r (marked reach i) other) (none-down r last reach i) (none-fields r last parents)
-          (none-counted r (stop-one r last .1) (other-binds r other) binders)
+          (none-counted r (K.stop-one r last .1) (K.other-binds r other) binders)
 
       pub new-passes : isStop (nodeOf r) ≡ false → isNewNode (nodeOf r) ≡ true → (row reach′ parents′ binders′ : List ℕ)
           → ((v : ℕ) → marked row 0 v ≡ eqb v (r .name)) → reach′ ≡ passed reach i (r .left) row 4
@@ -256,17 +221,17 @@ module _ {m i : ℕ} {reach parents binders : List ℕ} (ready : Ready m i reach
           → Passed m i r reach parents binders reach′ parents′ binders′
       new-passes goes opens row reach′ parents′ binders′ marks e counted grown =
           passes reach′ parents′ binders′ (other-uses r (marked reach i) other)
-          (rw e (one-down r goes (new-one r opens) reach i row rows-there (name-row r opens (other-binds r other) row marks)))
-          (one-field r goes (new-one r opens) parents parents′ counted)
-          (name-counted r opens (other-binds r other) binders binders′ grown)
+          (rw e (one-down r goes (K.new-one r opens) reach i row rows-there (name-row r opens (K.other-binds r other) row marks)))
+          (one-field r goes (K.new-one r opens) parents parents′ counted)
+          (name-counted r opens (K.other-binds r other) binders binders′ grown)
 
       pub two-passes : isStop (nodeOf r) ≡ false → isNewNode (nodeOf r) ≡ false → (reach₁ parents₁ reach′ parents′ : List ℕ)
           → reach₁ ≡ passed reach i (r .left) (replicate 4 0) 4 → reach′ ≡ passed reach₁ i (r .right) (replicate 4 0) 4
           → length parents₁ ≡ length parents → Grown parents parents₁ (λ v. one (eqb v (r .left)))
           → Grown parents₁ parents′ (λ v. one (eqb v (r .right))) → Passed m i r reach parents binders reach′ parents′ binders
       two-passes goes opens reach₁ parents₁ reach′ parents′ e f same left right =
-          let double = rest-two r other goes opens in
+          let double = K.rest-branches r other goes opens in
           passes reach′ parents′ binders (other-uses r (marked reach i) other)
-          (rw (f, e) (two-down r goes double reach i (replicate 4 0) rows-there (none-row r opens (other-binds r other))))
+          (rw (f, e) (two-down r goes double reach i (replicate 4 0) rows-there (none-row r opens (K.other-binds r other))))
           (two-fields r goes double parents parents₁ parents′ same left right)
-          (none-counted r opens (other-binds r other) binders)
+          (none-counted r opens (K.other-binds r other) binders)

@@ -2,7 +2,7 @@
 // for the refusal. Promises specs/Pass, Clear. Depends on fields, scopes and counts (the tests and tables of single refusals), records, marks, wire,
 // model and laws. The tables take 35,328 bytes of stack.
 ghost use mathlib.Core.Path.{_≡_};
-ghost use mathlib.Core.Bool.{true, false, _||_};
+ghost use mathlib.Core.Bool.{true, false};
 ghost use Prim.Native.Nat.{ℕ, _+_, _*_, _<_, _≤_};
 ghost use lib.Dec.{eqb};
 ghost use lib.ListN.{length, getD, replicate};

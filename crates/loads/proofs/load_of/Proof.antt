@@ -5,8 +5,8 @@ use denote.Ref.{now}
 use Rattle.model.specs.Tree.{isAgent}
 use Rattle.records.specs.Record.{nodeOf}
 use Rattle.records.specs.Kinds.{isStop, isNewNode}
-use Rattle.records.proofs.KindLaws.{left-child, right-child}
-use Rattle.loads.proofs.Laws.{load-node, rest-branches}
+use Rattle.records.proofs.KindLaws.{left-child, right-child, rest-branches}
+use Rattle.loads.proofs.Laws.{load-node}
 use borrow.Author.Needs.{needs}
 use native.Mathlib.Omega.{arith}
 use Rattle.loads.proofs.load_of.Statement.{statement}

@@ -2,7 +2,6 @@
 use Prim.Native.Nat.{_+_, _*_}
 use native.Mathlib.Omega.{arith}
 use mathlib.Core.Path.{sym, _∙_}
-use denote.Ref.{now}
 use borrow.Author.Needs.{needs}
 use Rattle.scans.proofs.pass_node.Statement.{statement}
 use Rattle.scans.proofs.pass_node.Tie as tie

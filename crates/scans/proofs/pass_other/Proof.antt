@@ -9,8 +9,9 @@ use borrow.Author.Tests.{not-false}
 use Rattle.laws.proofs.Search.{and-split}
 use Rattle.records.specs.Record.{nodeOf}
 use Rattle.records.specs.Kinds.{isStop}
+use Rattle.records.proofs.KindLaws.{rest-branches}
 use Rattle.scans.specs.Pass.{recordFits, RestZero}
-use Rattle.scans.proofs.Node.{left-open, right-open, rest-two, stop-passes, new-passes, two-passes}
+use Rattle.scans.proofs.Node.{left-open, right-open, stop-passes, new-passes, two-passes}
 use Rattle.scans.proofs.pass_other.Statement.{statement}
 use Rattle.scans.proofs.pass_other.Tie as tie
 
@@ -117,7 +118,7 @@ hand-down-requires-3 c κs =
     let start = begun (tested place) in
     let r = start .args .r in
     let opens = at-if3-too (at-reach2 (c .before)) .before .is-new .ensures in
-    let double = rest-two r (start .pre .1 .2) (goes place) (sym opens ∙ at-if3-too (at-reach2 (c .before)) .if3 .left) in
+    let double = rest-branches r (start .pre .1 .2) (goes place) (sym opens ∙ at-if3-too (at-reach2 (c .before)) .if3 .left) in
     let down = c .before .before .before .before .before .before .hand-down2 in
     right-open (start .pre .0 .1) r (tests (tested place) .0) double (down .last .0) (down .last .1 .0) (down .kept .0) (down .kept .1 .0) (down .ensures .1)
 
