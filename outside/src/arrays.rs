@@ -141,8 +141,23 @@ fn grow(random: &mut Random, style: Style) -> ArrayFile {
     while let Some(spot) = grower.take() {
         grower.place(spot);
     }
-    grower.mix_names();
-    ArrayFile { remark, records: grower.records, names: grower.names }
+    let (mut records, names) = (grower.records, grower.names);
+    mix_names(random, &mut records, names);
+    ArrayFile { remark, records, names }
+}
+
+/// Gives every name another number.
+pub fn mix_names(random: &mut Random, records: &mut [Record], names: usize) {
+    let mut mixed: Vec<usize> = (0..names).collect();
+    random.shuffle(&mut mixed);
+    for record in records {
+        if record.is_agent() || record.kind == NEW {
+            record.name = mixed[record.name];
+        }
+        for name in &mut record.arguments {
+            *name = mixed[*name];
+        }
+    }
 }
 
 impl Grower<'_> {
@@ -238,19 +253,6 @@ impl Grower<'_> {
     fn fresh(&mut self) -> usize {
         self.names += 1;
         self.names - 1
-    }
-
-    fn mix_names(&mut self) {
-        let mut mixed: Vec<usize> = (0..self.names).collect();
-        self.random.shuffle(&mut mixed);
-        for record in &mut self.records {
-            if record.is_agent() || record.kind == NEW {
-                record.name = mixed[record.name];
-            }
-            for name in &mut record.arguments {
-                *name = mixed[*name];
-            }
-        }
     }
 }
 

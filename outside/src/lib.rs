@@ -2,12 +2,15 @@
 //! compared.
 
 pub mod arrays;
+pub mod balanced;
+pub mod changes;
 pub mod claims;
 pub mod damage;
 pub mod disorder;
 pub mod files;
 pub mod guarded;
 pub mod lists;
+pub mod many_senders;
 pub mod order;
 pub mod packed;
 pub mod parts;
@@ -16,4 +19,6 @@ pub mod run;
 pub mod sets;
 pub mod tables;
 pub mod tally;
+pub mod together;
+pub mod view;
 pub mod watch;

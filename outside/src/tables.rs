@@ -1,6 +1,6 @@
 //! Tables for a valid array: drafts that should be held, drafts one figure away from them, and random ones.
 
-use plain::{Array, Kind};
+use plain::{Array, Kind, Node};
 
 use crate::claims::{self, MOST_CLAIMS};
 use crate::files::{flip_bit, has_bit, Balance, TableFile, ROW};
@@ -8,8 +8,8 @@ use crate::random::Random;
 
 const MOST_BALANCES: usize = 24;
 
-type Rows = Vec<[u8; ROW]>;
-type Pair = (usize, usize);
+pub type Rows = Vec<[u8; ROW]>;
+pub type Pair = (usize, usize);
 
 /// Rows closed under rules 1 and 3, balances whose weights were raised until rule 4 holds, and claims that follow.
 pub fn accepted(random: &mut Random, array: &Array) -> TableFile {
@@ -170,10 +170,20 @@ fn raised(random: &mut Random, array: &Array, pairs: &[Pair], mut weights: Vec<u
 
 /// The least rows that meet rules 1 and 3 under the balances.
 fn saturated(array: &Array, balances: &[Balance]) -> Rows {
+    closed(array, own_rows(array), balances)
+}
+
+/// The least rows that meet rule 1.
+pub fn own_rows(array: &Array) -> Rows {
     let mut rows = vec![[0; ROW]; array.names()];
     for o in array.opened().iter() {
         flip_bit(&mut rows[o], o);
     }
+    rows
+}
+
+/// The least rows that contain the given ones and meet rule 3 under the balances.
+pub fn closed(array: &Array, mut rows: Rows, balances: &[Balance]) -> Rows {
     loop {
         let mut settled = true;
         for (p, q) in live(array, &rows, balances) {
@@ -192,7 +202,8 @@ fn saturated(array: &Array, balances: &[Balance]) -> Rows {
     }
 }
 
-fn live(array: &Array, rows: &Rows, balances: &[Balance]) -> Vec<Pair> {
+/// The live pairs.
+pub fn live(array: &Array, rows: &Rows, balances: &[Balance]) -> Vec<Pair> {
     let nodes = array.nodes();
     let mut pairs = Vec::new();
     for p in agents(array).into_iter().filter(|p| nodes[*p].is_receiver()) {
@@ -214,18 +225,32 @@ fn load(array: &Array, weights: &[u16]) -> u64 {
     loads(array, weights)[0]
 }
 
-fn loads(array: &Array, weights: &[u16]) -> Vec<u64> {
+/// The load of every node.
+pub fn loads(array: &Array, weights: &[u16]) -> Vec<u64> {
     let mut loads = vec![0; weights.len()];
     for (i, node) in array.nodes().iter().enumerate().rev() {
-        loads[i] = match node.kind {
-            Kind::Stop => 0,
-            Kind::New => loads[node.left],
-            Kind::Par => loads[node.left] + loads[node.right],
-            Kind::Choice => loads[node.left].max(loads[node.right]),
-            _ => u64::from(weights[i]),
-        };
+        loads[i] = if node.is_agent() { u64::from(weights[i]) } else { passed_on(node, &loads) };
     }
     loads
+}
+
+/// The load of a node that is no agent, from those of its children.
+pub fn passed_on(node: &Node, loads: &[u64]) -> u64 {
+    match node.kind {
+        Kind::New => loads[node.left],
+        Kind::Par => loads[node.left] + loads[node.right],
+        Kind::Choice => loads[node.left].max(loads[node.right]),
+        _ => 0,
+    }
+}
+
+/// The agents that a node's load is made of.
+pub fn front(array: &Array, number: usize) -> Vec<usize> {
+    let node = &array.nodes()[number];
+    if node.is_agent() {
+        return vec![number];
+    }
+    node.children().flat_map(|child| front(array, child)).collect()
 }
 
 pub fn agents(array: &Array) -> Vec<usize> {

@@ -2,6 +2,8 @@
 
 use std::collections::BTreeMap;
 
+use crate::together;
+
 pub const ENTRIES: [&str; 4] = ["check", "start", "step", "walk"];
 pub const CHECK: usize = 0;
 pub const START: usize = 1;
@@ -95,6 +97,8 @@ pub struct Tally {
     pub shares: [Share; 3],
     /// The counts named in `OTHERS`.
     others: BTreeMap<&'static str, u64>,
+    /// The counts named in `together`.
+    sorts: BTreeMap<String, u64>,
 }
 
 /// Whether an entry uses a refusal.
@@ -148,6 +152,11 @@ impl Tally {
         *self.others.entry(what).or_default() += more;
     }
 
+    /// Counts a table with many senders if it is of a sort.
+    pub fn count(&mut self, what: String, is: bool) {
+        *self.sorts.entry(what).or_default() += u64::from(is);
+    }
+
     /// Prints all counts. Gives what is wrong: answers never given, and refusals by an entry that does not use them.
     pub fn print(&self) -> Vec<String> {
         let mut wrong = Vec::new();
@@ -158,6 +167,7 @@ impl Tally {
             println!("{number:>8}{}", cells.concat());
         }
         self.print_answers(&mut wrong);
+        self.print_sorts(&mut wrong);
         for (name, share) in ["accepted", "nearly accepted", "broken"].iter().zip(&self.shares) {
             println!("tables meant as {name}: held {}, rule {}, refused {}", share.held, share.broken, share.refused);
         }
@@ -207,5 +217,18 @@ impl Tally {
                 wrong.push(format!("{name}: never"));
             }
         }
+    }
+
+    fn print_sorts(&self, wrong: &mut Vec<String>) {
+        let names = together::names();
+        for name in &names {
+            let count = self.sorts.get(name).copied().unwrap_or(0);
+            println!("many senders, {name}: {count}");
+            if count == 0 {
+                wrong.push(format!("many senders, {name}: never"));
+            }
+        }
+        let unknown = self.sorts.keys().filter(|name| !names.contains(name));
+        wrong.extend(unknown.map(|name| format!("no count of the list: {name}")));
     }
 }

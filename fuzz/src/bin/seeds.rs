@@ -1,10 +1,10 @@
 //! Writes the corpus that the fuzzer starts from: the examples, the stored pairs of files, the stored arrays, random arrays
-//! with accepted, nearly accepted and broken tables, tables with sets, by what is answered, and tables of 256 claims,
-//! in order and not. Each comes with some calls. Argument: the folder.
+//! with accepted, nearly accepted and broken tables, tables with sets, by what is answered, tables of 256 claims, in
+//! order and not, and tables for many senders. Each comes with some calls. Argument: the folder.
 
 use outside::files::TableFile;
 use outside::random::Random;
-use outside::{arrays, damage, parts, sets, tables};
+use outside::{arrays, balanced, changes, damage, many_senders, parts, sets, tables};
 use plain::Verdict;
 use std::fs;
 use std::io;
@@ -17,6 +17,7 @@ const MOST_BYTES: usize = 8000;
 const RANDOM: u64 = 300;
 const OF_EACH_SORT: usize = 25;
 const CROWDED: u64 = 15;
+const MANY_SENDERS: usize = 30;
 
 type Pair = (String, Vec<u8>, Vec<u8>);
 
@@ -112,6 +113,18 @@ fn crowded(round: u64) -> Pair {
     (format!("crowded-{round}"), array, damage::table(&mut random, &table, faults))
 }
 
+/// Many senders, and a table that is held or has one change.
+fn random_senders(round: u64) -> Pair {
+    let mut random = Random::of(4, 0, round);
+    let file = many_senders::array(&mut random).bytes();
+    let array = parts::read(&file);
+    let mut table = balanced::draft(&mut random, &array);
+    if !random.once_in(3) {
+        changes::change(&mut random, &array, &mut table);
+    }
+    (format!("senders-{round}"), file, table.bytes())
+}
+
 /// Held; broken by a set whose first claim would hold alone; refused by 30; by 31.
 fn has_sort(sort: usize, pair: &Pair) -> bool {
     match plain::check(&pair.1, &pair.2) {
@@ -139,7 +152,9 @@ fn main() -> io::Result<()> {
     let arrays =
         files_in(&root.join("crates/inspect/data"))?.into_iter().map(|(name, array)| (name, array, Vec::new()));
     let files = examples(&root)?.into_iter().chain(stored(&root)?).chain(arrays);
-    let pairs = files.chain((0..RANDOM).map(random)).chain(of_each_sort()).chain((0..CROWDED).map(crowded));
+    let senders = (0..).map(random_senders).filter(is_small).take(MANY_SENDERS);
+    let pairs =
+        files.chain((0..RANDOM).map(random)).chain(of_each_sort()).chain((0..CROWDED).map(crowded)).chain(senders);
     for (name, array, table) in pairs.filter(is_small) {
         fs::write(Path::new(&folder).join(name), seed(&array, &table))?;
     }

@@ -6,6 +6,7 @@ mod engine;
 mod limits;
 mod mirror;
 mod orders;
+mod senders;
 mod verdicts;
 mod walks;
 
@@ -24,7 +25,7 @@ const fn part(name: &'static str, rounds: u64, round: fn(&mut Run)) -> Part {
     Part { name, rounds, round }
 }
 
-pub const PARTS: [Part; 16] = [
+pub const PARTS: [Part; 17] = [
     part("verdicts on small arrays", 30_000, verdicts::small),
     part("verdicts on large arrays", 50, verdicts::large),
     part("damaged arrays", 60_000, damaged::arrays),
@@ -41,6 +42,7 @@ pub const PARTS: [Part; 16] = [
     part("NULL for empty buffers", 200, limits::null),
     part("claims in other orders", 20_000, orders::orders),
     part("256 claims", 600, verdicts::crowded),
+    part("many senders", 1_000, senders::senders),
 ];
 
 /// Reads what a generator of valid arrays made.
