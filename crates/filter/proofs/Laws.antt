@@ -3,16 +3,16 @@ use Prim.Native.Nat.{ℕ, _+_, _≤_, _<_}
 use native.Mathlib.Omega.{arith}
 use mathlib.Core.Path.{_≡_, refl, sym, ap, _∙_}
 use mathlib.Core.Logic.{inl, inr}
-use mathlib.Core.Bool.{Bool, true, false, cond, not, _&&_, true≢false}
+use mathlib.Core.Bool.{Bool, true, false, cond, true≢false}
 use mathlib.Core.List.{List}
-use lib.Dec.{eqb, leb, ltb}
+use lib.Dec.{eqb, ltb}
 use lib.ListN.{length, getD, set, replicate, length-replicate, getD-replicate}
 use lib.Seq.{getD-set-same, getD-set-other}
 use borrow.Author.Tests.{eqb-true, eqb-false, leb-true, le-leb, ltb-true}
-use Rattle.laws.specs.Search.{clear, every}
+use Rattle.laws.specs.Search.{clear}
 use Rattle.laws.proofs.Search.{decided, and-join, every-true, true-every}
 use Rattle.laws.proofs.Lists.{getD-zeros}
-use Rattle.marks.specs.Marks.{marked, share}
+use Rattle.marks.specs.Marks.{marked}
 use Rattle.marks.proofs.Laws.{inside-trans, share-inside}
 use Rattle.model.specs.Tree.{Array, isAgent}
 use Rattle.model.specs.Memory.{isOut}
@@ -62,7 +62,8 @@ module _ (rule : ℕ) {S : Setting} (given : Given S) {p : Side} (hp : Held S p)
           → loadIn (S .loads) (p .node .left) k + loadIn (S .loads) (q .node .left) k
           ≤ loadIn (S .loads) (q .number) k + takenOf (p .node) (loadIn (S .loads) (p .number) k)
       met k h need give =
-          let light = given .weighed .light (q .number) k (ap isAgent (node-read (S .f) (S .t) (q .number) (q .node) (hq .below) (hq .is)) ∙ sender-is (q .node) sends .0) h in
+          let agent = ap isAgent (node-read (S .f) (S .t) (q .number) (q .node) (hq .below) (hq .is)) ∙ sender-is (q .node) sends .0 in
+          let light = given .weighed .light (q .number) k agent h in
           omega (arith, need, give, light)
 
 -- ---- set after set

@@ -1,12 +1,12 @@
 -- The senders of a set, one by one along its links: those at or above the next are passed.
-use Prim.Native.Nat.{ℕ, _+_, _≤_, _<_}
+use Prim.Native.Nat.{ℕ, _+_, _≤_}
 use native.Mathlib.Omega.{arith}
 use mathlib.Core.Path.{_≡_, refl, sym, ap, _∙_}
 use mathlib.Core.Logic.{inl, inr}
-use mathlib.Core.Bool.{true, false}
+use mathlib.Core.Bool.{false}
 use mathlib.Core.List.{List}
 use lib.Dec.{eqb, ltb}
-use lib.ListN.{length, getD}
+use lib.ListN.{getD}
 use borrow.Author.Tests.{ltb-true, ltb-false, eqb-true, eqb-false}
 use Rattle.laws.proofs.Search.{decided}
 use Rattle.model.specs.Memory.{isOut}
@@ -39,7 +39,8 @@ module _ (rule : ℕ) (S : Setting) (p : Side) (g : ℕ) (links : List ℕ) wher
       → breaksPair rule S p record { number = j; node = r } ≡ false → AtMember rule S p g links j (getD links j 0)
   members-more end next j up a fits r is e = (fits, λ sets count l. one sets count l (rw up at (a .1 sets count l)))
     where
-      one : (sets : List ℕ) (count : ℕ) → Linked (S .f) (S .t) sets count links → Passed rule S p g (j + 1) sets count → Passed rule S p g (getD links j 0) sets count
+      one : (sets : List ℕ) (count : ℕ) → Linked (S .f) (S .t) sets count links → Passed rule S p g (j + 1) sets count
+          → Passed rule S p g (getD links j 0) sets count
       one sets count l h =
           let here = h .of j refl in
           record {
@@ -56,7 +57,8 @@ module _ (rule : ℕ) (S : Setting) (p : Side) (g : ℕ) (links : List ℕ) wher
           }
 
   -- no sender is left
-  pub members-done : (end : ℕ) → AtMember rule S p g links end 0 → (sets : List ℕ) (count : ℕ) → Linked (S .f) (S .t) sets count links → SetSound rule S sets count p g
+  pub members-done : (end : ℕ) → AtMember rule S p g links end 0 → (sets : List ℕ) (count : ℕ) → Linked (S .f) (S .t) sets count links
+      → SetSound rule S sets count p g
   members-done end a sets count l q hq sends of =
       let h = a .1 sets count l in
       ap (λ r. breaksPair rule S p record { number = q .number; node = r }) (hq .is)

@@ -31,7 +31,8 @@ needMet needs loads g stays i l k = leb (loadIn loads l k + loadIn needs g k) (6
 -- the same of all arguments by rule 3, in n balances by rule 4
 abbrev pub figuresPass : ℕ → ℕ → List ℕ → List ℕ → List ℕ → List ℕ → ℕ → Side → Bool
 figuresPass rule n needs unions rows loads g p =
-    cond (eqb rule 3) (every (p .node .arity) (argInside unions rows g (p .node .args))) (every n (needMet needs loads g (isResource (nodeOf (p .node))) (p .number) (p .node .left)))
+    cond (eqb rule 3) (every (p .node .arity) (argInside unions rows g (p .node .args)))
+    (every n (needMet needs loads g (isResource (nodeOf (p .node))) (p .number) (p .node .left)))
 
 -- ---- what the lists have of a set and a receiver
 

@@ -9,14 +9,14 @@ use borrow.Author.Tests.{not-false}
 use Rattle.laws.specs.Search.{clear, hit, test, under, first}
 use Rattle.laws.proofs.Search.{decided, clear-test, hit-test, clear-under, first-zero, first-pass, first-here, first-same, clear-first, every-true}
 use Rattle.model.specs.Tree.{agentAt}
-use Rattle.model.specs.Rules.{Table, Verdict, onLive, pairs}
-use Rattle.records.specs.Record.{recordOf, nodeOf, arrayOf}
+use Rattle.model.specs.Rules.{Verdict, onLive, pairs}
+use Rattle.records.specs.Record.{recordOf, nodeOf}
 use Rattle.records.specs.Kinds.{isReceiver}
 use Rattle.arrays.proofs.Agents.{small-arity, arity-is}
 use Rattle.pairs.specs.declared.Side.{Side}
 use Rattle.pairs.specs.declared.Place.{Place}
 use Rattle.pairs.specs.declared.Place.the-variants.{Nowhere, At}
-use Rattle.pairs.specs.Pairs.{Setting, Given, Held, arrayIn, tableIn, placeOf, atPair, pairsAt, pairsOf, placed, Screened, figuresOf, holdsAt, allHold}
+use Rattle.pairs.specs.Pairs.{Setting, Given, Held, arrayIn, tableIn, placeOf, atPair, pairsAt, pairsOf, placed, figuresOf, holdsAt, allHold}
 use Rattle.pairs.specs.Pairs.{breaksPair}
 use Rattle.pairs.proofs.Laws.{near, alive, live-near, no-receiver, pair-is, figure-is}
 
@@ -98,7 +98,9 @@ module _ (rule : ℕ) {S : Setting} {p : Side} (g : Given S) (r : Held S p) wher
   nothing-found e =
       clear-first (S .t .nodes) _ (λ j l.
       elim (decided (isReceiver (nodeOf (p .node)))) [
-        | inl k ↦ pair-at rule {q = sideAt S j} g r k (sym (rw k at e)) record { below = l; is = refl } ∙ clear-under (alive S p (sideAt S j)) _ (λ u. first-zero _)
+        | inl k ↦
+            pair-at rule {q = sideAt S j} g r k (sym (rw k at e)) record { below = l; is = refl }
+            ∙ clear-under (alive S p (sideAt S j)) _ (λ u. first-zero _)
         | inr k ↦ no-receiver g r k j (atPair rule (tableIn S) (p .number) j)
       ])
 
@@ -109,7 +111,8 @@ module _ (rule : ℕ) {S : Setting} {p : Side} (g : Given S) (r : Held S p) wher
       pair-at rule {q = sideAt S j} g r k refl record { below = l; is = refl }
       ∙ clear-under (alive S p (sideAt S j)) _ (λ u.
       clear-first _ _ (λ m h.
-      clear-test _ _ (each-figure rule S p (sideAt S j) (whole (allHold rule (S .n) (S .rows) (S .loads) p (sideAt S j)) u (sound (sideAt S j) record { below = l; is = refl })) m h))))
+      clear-test _ _ (each-figure rule S p (sideAt S j)
+      (whole (allHold rule (S .n) (S .rows) (S .loads) p (sideAt S j)) u (sound (sideAt S j) record { below = l; is = refl })) m h))))
 
 module _ {rule : ℕ} {S : Setting} where
   pub begin : Given S → AtReceiver rule S Nowhere 0

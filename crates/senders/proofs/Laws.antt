@@ -23,7 +23,7 @@ use Rattle.loads.specs.Loads.{entryIndex, loadIn}
 use Rattle.pairs.specs.declared.Side.{Side}
 use Rattle.pairs.specs.Pairs.{Setting, Given, Held}
 use Rattle.pairs.proofs.Laws.{name-row, arg-row}
-use Rattle.senders.specs.Sets.{setOf, Family, family, Room, Covers, Collected, NeedsGrow, RowsGrow, Grown, Askable}
+use Rattle.senders.specs.Sets.{setOf, Family, Room, Covers, Collected, NeedsGrow, RowsGrow, Grown, Askable}
 
 -- ---- the set of a sender is one of the sets
 

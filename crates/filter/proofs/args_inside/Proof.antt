@@ -43,7 +43,8 @@ loop-again : tie.Need-loop-again Inv-loop μ-loop
 loop-again c =
     let l = c .before .before .before .loop in
     let x = c .before .before .before .before .before .before .before .args in
-    (search needs, rw (l .inv .1, c .contained .ensures, c .before .byte-index .ensures .0) (sym (every-step (argInside (now (x .unions)) (now (x .rows)) (x .g) (x .r .args)) (l .m))))
+    let inside = argInside (now (x .unions)) (now (x .rows)) (x .g) (x .r .args) in
+    (search needs, rw (l .inv .1, c .contained .ensures, c .before .byte-index .ensures .0) (sym (every-step inside (l .m))))
 
 returns : tie.Need-returns Inv-loop μ-loop
 returns c =

@@ -38,7 +38,15 @@ sift-requires c κs =
     let s = at-start (at-shared-slice-known3 (at-unions (at-unions2 (at-links2 (c .before))))) in
     let pre = s .pre in (
       (pre .0 .0, search needs, pre .0 .3),
-      (record { sets = now (s .args .sets); collected = at-unions2 (at-links2 (c .before)) .before .before .collect .ensures (now (s .args .bounds)); linked = c .before .before .before .before .before .before .link-if .ensures; some = pre .0 .2 }, pre .1),
+      (
+        record {
+          sets = now (s .args .sets);
+          collected = at-unions2 (at-links2 (c .before)) .before .before .collect .ensures (now (s .args .bounds));
+          linked = c .before .before .before .before .before .before .link-if .ensures;
+          some = pre .0 .2;
+        },
+        pre .1,
+      ),
     )
 
 returns : tie.Need-returns

@@ -1,5 +1,5 @@
 -- Rule 3 looks at arguments, rule 4 at balances.
-use mathlib.Core.Path.{_≡_, ap, _∙_}
+use mathlib.Core.Path.{ap, _∙_}
 use mathlib.Core.Bool.{Bool}
 use denote.Ref.{now}
 use Rattle.laws.specs.Search.{every}
@@ -23,7 +23,8 @@ returns-2 c =
     let x = c .before .before .before .before .before .before .before .args in
     rw (ne-eqb _ _ (c .before .before .if1 .left))
     (c .needs-met .ensures
-    ∙ ap (λ (b : Bool). every (x .balances) (needMet (now (x .needs)) (now (x .loads)) (x .g) b (x .p .number) (x .p .node .left))) (c .before .is-resource .ensures))
+    ∙ ap (λ (b : Bool). every (x .balances) (needMet (now (x .needs)) (now (x .loads)) (x .g) b (x .p .number) (x .p .node .left)))
+    (c .before .is-resource .ensures))
 
 pub figures-pass-spec : {M : Type 1} → statement M
 figures-pass-spec = tie.close (tie.spec args-inside-requires returns (λ c κs. search needs) needs-met-requires returns-2)

@@ -1,5 +1,5 @@
 -- Where the senders are not looked at one by one, nothing is asked of the links.
-use mathlib.Core.Path.{_≡_, sym, _∙_}
+use mathlib.Core.Path.{sym, _∙_}
 use mathlib.Core.Bool.{true≢false}
 use borrow.Author.Tests.{not-true}
 use borrow.Author.Needs.{needs}

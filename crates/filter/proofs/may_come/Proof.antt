@@ -1,5 +1,5 @@
 -- The arity is looked at first, and then the rows.
-use mathlib.Core.Path.{_≡_, sym, _∙_}
+use mathlib.Core.Path.{sym, _∙_}
 use borrow.Author.Tests.{not-true, not-false}
 use borrow.Author.Needs.{needs}
 use Rattle.filter.proofs.may_come.Statement.{statement}

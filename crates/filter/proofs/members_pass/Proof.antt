@@ -3,10 +3,9 @@ use denote.Ref.{now}
 use Prim.Native.Nat.{_-_, _<_}
 use mathlib.Core.Path.{_≡_, sym, _∙_}
 use mathlib.Core.Bool.{true≢false}
-use borrow.Author.Tests.{not-true, not-false}
 use borrow.Author.Needs.{needs}
 use native.Mathlib.Omega.{arith}
-use Rattle.pairs.specs.Pairs.{Setting, Held, setting}
+use Rattle.pairs.specs.Pairs.{Held, setting}
 use Rattle.pairs.proofs.Laws.{agent-p, name-row, figures-there}
 use Rattle.filter.proofs.Members.{AtMember, members-begun, members-more, members-done}
 use Rattle.filter.proofs.members_pass.Statement.{statement}
@@ -63,7 +62,9 @@ returns-2 : tie.Need-returns-2 Inv-loop μ-loop
 returns-2 c e = absurd (true≢false (sym e))
 
 shared-slice-read-number-index-2 : tie.Need-shared-slice-read-number-index-2 Inv-loop μ-loop
-shared-slice-read-number-index-2 c = omega (arith, c .before .before .before .before .before .before .loop .inv .0, c .before .before .before .before .if1 .left, at-start (at-shared-slice-known4 (at-loop (c .before .before))) .pre .0 .1, at-start (at-shared-slice-known4 (at-loop (c .before .before))) .pre .0 .0 .read .formed .fewNodes)
+shared-slice-read-number-index-2 c =
+    let pre = at-start (at-shared-slice-known4 (at-loop (c .before .before))) .pre in
+    omega (arith, at-loop (c .before .before) .loop .inv .0, c .before .before .before .before .if1 .left, pre .0 .1, pre .0 .0 .read .formed .fewNodes)
 
 loop-less : tie.Need-loop-less Inv-loop μ-loop
 loop-less c = omega (arith, c .before .before .before .before .before .if1 .left)
@@ -74,8 +75,9 @@ loop-again c =
     let x = at-start (at-shared-slice-known4 (at-loop (c .before .before .before))) .args in
     rw (c .number-index2 .ensures .0)
     (members-more (x .rule) (setting (now (x .file)) (x .t) (x .balances) (now (x .rows)) (now (x .loads)) (now (x .bounds))) (x .p) (x .g) (now (x .links))
-    (l .end) (l .next) (l .next - 1) (omega (arith, c .before .before .before .before .before .before .loop-test .taken)) (l .inv) (omega (arith, l .inv .0, c .before .before .before .before .before .if1 .left))
-    (c .before .before .before .before .node-at .result) (c .before .before .before .before .node-at .ensures) (sym (c .before .before .before .breaks .ensures) ∙ c .before .before .if2 .left))
+    (l .end) (l .next) (l .next - 1) (omega (arith, c .before .before .before .before .before .before .loop-test .taken)) (l .inv)
+    (omega (arith, l .inv .0, c .before .before .before .before .before .if1 .left)) (c .before .before .before .before .node-at .result)
+    (c .before .before .before .before .node-at .ensures) (sym (c .before .before .before .breaks .ensures) ∙ c .before .before .if2 .left))
 
 returns-3 : tie.Need-returns-3 Inv-loop μ-loop
 returns-3 c e =

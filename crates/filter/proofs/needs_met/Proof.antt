@@ -33,7 +33,13 @@ loop-again c =
     let l = c .before .before .before .before .before .loop in
     let x = c .before .before .before .before .before .before .before .before .args in (
       search needs,
-      rw (l .inv .1, c .before .before .before .load-at .ensures .0, c .before .before .load-at2 .ensures .0, c .gone .ensures .0, c .before .load-at3 .ensures .0)
+      rw (
+        l .inv .1,
+        c .before .before .before .load-at .ensures .0,
+        c .before .before .load-at2 .ensures .0,
+        c .gone .ensures .0,
+        c .before .load-at3 .ensures .0,
+      )
           (sym (every-step (needMet (now (x .needs)) (now (x .loads)) (x .g) (x .stays) (x .i) (x .l)) (l .k))),
     )
 

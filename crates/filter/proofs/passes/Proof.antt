@@ -1,16 +1,13 @@
 -- The sets passed so far have no sender that breaks the rule with p, whichever sets the lists stand for.
-use Prim.Native.Nat.{ℕ, _≤_, _<_, _-_}
+use Prim.Native.Nat.{_≤_, _-_}
 use denote.Ref.{now}
-use mathlib.Core.Path.{_≡_, refl, sym, _∙_}
+use mathlib.Core.Path.{_≡_, sym}
 use mathlib.Core.Bool.{true, true≢false}
-use mathlib.Core.List.{List}
-use borrow.Author.Tests.{not-true, not-false}
+use borrow.Author.Tests.{not-false}
 use borrow.Author.Needs.{needs}
 use native.Mathlib.Omega.{arith}
-use Rattle.pairs.specs.declared.Side.{Side}
-use Rattle.pairs.specs.Pairs.{Setting, setting}
-use Rattle.senders.specs.Sets.{Family, family, Collected, Linked}
-use Rattle.filter.specs.Filter.{SetSound}
+use Rattle.pairs.specs.Pairs.{setting}
+use Rattle.senders.specs.Sets.{family}
 use Rattle.filter.proofs.Laws.{SetsSound, sets-more, sets-done}
 use Rattle.filter.proofs.passes.Statement.{statement}
 use Rattle.filter.proofs.passes.Tie as tie
@@ -48,7 +45,8 @@ loop-again c =
     let x = at-start (at-shared-slice-known4 (at-shared-slice-known8 c)) .args in (
       search needs,
       sets-more (x .rule) (setting (now (x .file)) (x .t) (x .balances) (now (x .rows)) (now (x .loads)) (now (x .bounds)))
-          (family (now (x .needs)) (now (x .unions)) (now (x .arities))) (now (x .links)) (x .deep) (x .count) (x .p) _ (c .before .before .before .loop .inv .1)
+          (family (now (x .needs)) (now (x .unions)) (now (x .arities))) (now (x .links)) (x .deep) (x .count) (x .p) _
+          (c .before .before .before .loop .inv .1)
           (λ sets. c .before .set-passes .ensures (not-false _ (c .if1 .left)) sets (x .count)),
     )
 

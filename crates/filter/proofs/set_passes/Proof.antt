@@ -1,8 +1,7 @@
 -- The three ways in which a set passes, each by its law.
 use denote.Ref.{now}
-use mathlib.Core.Path.{_≡_, sym, _∙_}
+use mathlib.Core.Path.{sym, _∙_}
 use mathlib.Core.Bool.{true≢false}
-use mathlib.Core.List.{List}
 use borrow.Author.Tests.{not-true, not-false}
 use borrow.Author.Needs.{needs}
 use native.Mathlib.Omega.{arith}
@@ -66,7 +65,11 @@ figures-pass-requires c κs =
     let balances = g .lists .few in (
       few,
       λ m h. let a = small-arity (g .read) hp in (omega arith, omega (arith, few, room .unions), arg-row g hp agent m h),
-      λ k h. ((omega (arith, few, room .needs, balances), room .half _ k), g .weighed .half _ (left-below (g .read) hp agent) k h, g .weighed .half _ (hp .below) k h),
+      λ k h. (
+        (omega (arith, few, room .needs, balances), room .half _ k),
+        g .weighed .half _ (left-below (g .read) hp agent) k h,
+        g .weighed .half _ (hp .below) k h,
+      ),
     )
 
 returns-2 : tie.Need-returns-2

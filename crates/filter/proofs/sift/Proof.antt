@@ -1,6 +1,5 @@
 -- The list says 0 of a node only where nothing is found there, at every turn.
 use Prim.Native.Nat.{_≤_, _-_}
-use denote.Ref.{now}
 use mathlib.Core.Path.{_≡_, sym, _∙_}
 use lib.ListN.{length, length-set}
 use borrow.Author.Needs.{needs}
@@ -34,7 +33,9 @@ loop-holds c =
     (omega arith, s .pre .1 .1 .0, s .pre .1 .1 .1)
 
 slice-read-suspicion : tie.Need-slice-read-suspicion Inv-loop μ-loop
-slice-read-suspicion c = omega (arith, c .before .before .loop .inv .1, at-start (at-shared-slice-known3 (at-shared-slice-known7 c)) .pre .0 .0 .read .formed .fewNodes)
+slice-read-suspicion c =
+    let few = at-start (at-shared-slice-known3 (at-shared-slice-known7 c)) .pre .0 .0 .read .formed .fewNodes in
+    omega (arith, c .before .before .loop .inv .1, few)
 
 suspicion-requires : tie.Need-suspicion-requires Inv-loop μ-loop
 suspicion-requires c κs =
@@ -43,7 +44,9 @@ suspicion-requires c κs =
     (s .pre .0, (s .pre .1 .0, (c .before .loop-test .taken, λ e. l .inv .2 (l .i) (c .before .loop-test .taken) e)))
 
 slice-write-suspects : tie.Need-slice-write-suspects Inv-loop μ-loop
-slice-write-suspects c = omega (arith, c .before .before .before .loop .inv .1, at-start (at-shared-slice-known3 (at-shared-slice-known7 (c .before))) .pre .0 .0 .read .formed .fewNodes)
+slice-write-suspects c =
+    let few = at-start (at-shared-slice-known3 (at-shared-slice-known7 (c .before))) .pre .0 .0 .read .formed .fewNodes in
+    omega (arith, c .before .before .before .loop .inv .1, few)
 
 loop-again : tie.Need-loop-again Inv-loop μ-loop
 loop-again c =
@@ -51,7 +54,8 @@ loop-again c =
     let l = c .before .before .before .loop in (
       omega (arith, c .before .before .loop-test .taken),
       length-set (l .suspects) _ _ ∙ l .inv .1,
-      screened-set (s .args .rule) _ _ (l .suspects) (l .i) _ (omega (arith, l .inv .1, c .before .before .loop-test .taken, s .pre .0 .0 .read .formed .fewNodes)) (l .inv .2)
+      screened-set (s .args .rule) _ _ (l .suspects) (l .i) _
+          (omega (arith, l .inv .1, c .before .before .loop-test .taken, s .pre .0 .0 .read .formed .fewNodes)) (l .inv .2)
           (c .suspicion .ensures),
     )
 

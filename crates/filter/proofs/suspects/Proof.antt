@@ -23,7 +23,8 @@ by-arity-requires c κs =
 ask-requires : tie.Need-ask-requires
 ask-requires c κs =
     let g = at-start (at-shared-slice-known4 (c .before)) .pre in
-    ((g, search needs, omega arith, omega arith), (search needs, all-suspects (at-start (at-shared-slice-known4 (c .before)) .args .rule) _ _ (g .read .formed .fewNodes)))
+    let rule = at-start (at-shared-slice-known4 (c .before)) .args .rule in
+    ((g, search needs, omega arith, omega arith), (search needs, all-suspects rule _ _ (g .read .formed .fewNodes)))
 
 ask-closely-requires : tie.Need-ask-closely-requires
 ask-closely-requires c κs =

@@ -1,6 +1,6 @@
 -- Nothing is found at a node that was no suspect, that has no figures, or that every set passes.
 use denote.Ref.{now}
-use mathlib.Core.Path.{_≡_, sym, _∙_}
+use mathlib.Core.Path.{sym, _∙_}
 use borrow.Author.Needs.{needs}
 use native.Mathlib.Omega.{arith}
 use Rattle.pairs.specs.declared.Side.{Side}
@@ -50,7 +50,8 @@ returns-3 c e =
     let s = at-start (at-shared-slice-known4 (at-shared-slice-known8-too (c .before .before))) in
     let p : Side = record { number = s .args .i; node = c .before .before .before .before .node-at .result } in
     let held : Held (given s) p = record { below = s .pre .1 .1 .0; is = c .before .before .before .before .node-at .ensures } in
-    sound-node (s .args .rule) (s .pre .0 .0) held (receives-figures (s .args .rule) (s .args .balances) _ (λ e. c .before .before .if2 .left (c .before .before .before .figures .ensures ∙ e)))
+    sound-node (s .args .rule) (s .pre .0 .0) held
+    (receives-figures (s .args .rule) (s .args .balances) _ (λ e. c .before .before .if2 .left (c .before .before .before .figures .ensures ∙ e)))
     (c .before .passes .ensures (c .if3 .taken))
 
 returns-4 : tie.Need-returns-4

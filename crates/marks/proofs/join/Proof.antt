@@ -1,7 +1,5 @@
 -- The words below w are joined.
 use Prim.Native.Nat.{_≤_, _-_}
-use denote.Ref.{now}
-use Rattle.marks.specs.Marks.{HasRow}
 use Rattle.marks.proofs.Laws.{Joining, join-begun, join-more, join-done}
 use borrow.Author.Needs.{needs}
 use native.Mathlib.Omega.{arith}
@@ -28,7 +26,8 @@ loop-again : tie.Need-loop-again Inv-loop μ-loop
 loop-again c =
     let l = c .before .before .before .before .before .loop in
     let room = c .before .before .before .before .before .before .before .before .pre in
-    (search needs, rw (c .before .before .join-word .ensures) (join-more _ _ _ _ _ (omega (arith, room .0, l .inv .1 .1)) (c .before .before .before .before .loop-test .taken) _ (l .inv .1)))
+    let few = c .before .before .before .before .loop-test .taken in
+    (search needs, rw (c .before .before .join-word .ensures) (join-more _ _ _ _ _ (omega (arith, room .0, l .inv .1 .1)) few _ (l .inv .1)))
 
 same-length : tie.Need-same-length Inv-loop μ-loop
 same-length c = c .before .loop .inv .1 .1

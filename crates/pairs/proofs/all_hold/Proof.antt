@@ -1,5 +1,5 @@
 -- Rule 3 looks at arguments, rule 4 at balances.
-use mathlib.Core.Path.{_≡_, ap, _∙_}
+use mathlib.Core.Path.{ap, _∙_}
 use mathlib.Core.Bool.{Bool}
 use denote.Ref.{now}
 use Rattle.laws.specs.Search.{every}

@@ -4,7 +4,6 @@ use mathlib.Core.Bool.{Bool, true, false, not, _&&_, and-false, and-true}
 use denote.Ref.{now}
 use Rattle.pairs.specs.Pairs.{livePair}
 use borrow.Author.Tests.{not-true, not-false}
-use borrow.Author.Needs.{needs}
 use Rattle.pairs.proofs.breaks.Statement.{statement}
 use Rattle.pairs.proofs.breaks.Tie as tie
 
@@ -24,14 +23,20 @@ all-hold-requires c κs = c .before .before .before .before .before .pre .1 .1 (
 returns-2 : tie.Need-returns-2
 returns-2 c =
     let x = c .before .before .before .before .before .before .before .args in
-    sym (held (livePair (now (x .rows)) (now (x .loads)) (now (x .bounds)) (x .balances) (x .p) (x .q)) (sym (c .before .all-hold .ensures) ∙ c .if2 .taken))
+    let live = livePair (now (x .rows)) (now (x .loads)) (now (x .bounds)) (x .balances) (x .p) (x .q) in
+    sym (held live (sym (c .before .all-hold .ensures) ∙ c .if2 .taken))
 
 fit-both-requires : tie.Need-fit-both-requires
 fit-both-requires c κs = c .before .before .before .before .before .before .before .pre .0
 
 returns-3 : tie.Need-returns-3
 returns-3 c =
-    rw (sym (c .before .before .before .before .meet .ensures) ∙ not-false _ (c .before .before .before .if1 .left), sym (c .before .before .all-hold .ensures) ∙ c .before .if2 .left, c .fit-both .ensures) (sym (and-true _))
+    rw (
+      sym (c .before .before .before .before .meet .ensures) ∙ not-false _ (c .before .before .before .if1 .left),
+      sym (c .before .before .all-hold .ensures) ∙ c .before .if2 .left,
+      c .fit-both .ensures,
+    )
+    (sym (and-true _))
 
 pub breaks-spec : {M : Type 1} → statement M
 breaks-spec = tie.close (tie.spec meet-requires returns all-hold-requires returns-2 fit-both-requires returns-3)

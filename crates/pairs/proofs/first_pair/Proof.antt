@@ -66,13 +66,16 @@ lives : (c : tie.Else3 Inv-balance μ-balance Inv-sender μ-sender Inv-receiver 
 lives c = and-split _ _ (sym (c .before .breaks .ensures) ∙ not-false _ (c .if3 .left)) .0
 
 -- stations
-abbrev at-shared-slice-known4 : tie.After-shared-slice-known6 Inv-balance μ-balance Inv-sender μ-sender Inv-receiver μ-receiver → tie.After-shared-slice-known4 Inv-balance μ-balance Inv-sender μ-sender Inv-receiver μ-receiver
+abbrev at-shared-slice-known4 : tie.After-shared-slice-known6 Inv-balance μ-balance Inv-sender μ-sender Inv-receiver μ-receiver
+    → tie.After-shared-slice-known4 Inv-balance μ-balance Inv-sender μ-sender Inv-receiver μ-receiver
 at-shared-slice-known4 c = c .before .before .before .before
 
-abbrev at-start : tie.After-shared-slice-known4 Inv-balance μ-balance Inv-sender μ-sender Inv-receiver μ-receiver → tie.Start Inv-balance μ-balance Inv-sender μ-sender Inv-receiver μ-receiver
+abbrev at-start : tie.After-shared-slice-known4 Inv-balance μ-balance Inv-sender μ-sender Inv-receiver μ-receiver
+    → tie.Start Inv-balance μ-balance Inv-sender μ-sender Inv-receiver μ-receiver
 at-start c = c .before .before .before .before
 
-abbrev at-shared-slice-known6 : tie.Else2 Inv-balance μ-balance Inv-sender μ-sender Inv-receiver μ-receiver → tie.After-shared-slice-known6 Inv-balance μ-balance Inv-sender μ-sender Inv-receiver μ-receiver
+abbrev at-shared-slice-known6 : tie.Else2 Inv-balance μ-balance Inv-sender μ-sender Inv-receiver μ-receiver
+    → tie.After-shared-slice-known6 Inv-balance μ-balance Inv-sender μ-sender Inv-receiver μ-receiver
 at-shared-slice-known6 c = c .before .before .before .before
 
 receiver-holds : tie.Need-receiver-holds Inv-balance μ-balance Inv-sender μ-sender Inv-receiver μ-receiver
@@ -81,7 +84,8 @@ receiver-holds c =
 
 receiver-again : tie.Need-receiver-again Inv-balance μ-balance Inv-sender μ-sender Inv-receiver μ-receiver
 receiver-again c =
-    row-passed (c .before .before .before .receiver .inv) (c .before .before .receiver-test .taken) (at-start (at-shared-slice-known4 (c .before)) .pre .2 _ (c .before .before .receiver-test .taken) (c .if1 .taken))
+    let low = c .before .before .receiver-test .taken in
+    row-passed (c .before .before .before .receiver .inv) low (at-start (at-shared-slice-known4 (c .before)) .pre .2 _ low (c .if1 .taken))
 
 receiver-again-2 : tie.Need-receiver-again-2 Inv-balance μ-balance Inv-sender μ-sender Inv-receiver μ-receiver
 receiver-again-2 c =
@@ -89,7 +93,8 @@ receiver-again-2 c =
     (sym (c .before .figures .ensures) ∙ c .if2 .taken)
 
 sender-holds : tie.Need-sender-holds Inv-balance μ-balance Inv-sender μ-sender Inv-receiver μ-receiver
-sender-holds c = row (c .before .before .before .before .before .before .receiver .inv) (held-receiver (c .before .before)) (c .before .figures .ensures) (c .if2 .left)
+sender-holds c =
+    row (c .before .before .before .before .before .before .receiver .inv) (held-receiver (c .before .before)) (c .before .figures .ensures) (c .if2 .left)
 
 breaks-requires : tie.Need-breaks-requires Inv-balance μ-balance Inv-sender μ-sender Inv-receiver μ-receiver
 breaks-requires c κs =
@@ -101,7 +106,8 @@ breaks-requires c κs =
       (omega arith, half _ (w .reads .below), half _ (c .before .sender-test .taken)),
       (
         (receiver-is _ (w .receives) .0, name-row g (w .reads), name-row g (held-sender c)),
-        λ l. figures-there g (w .reads) (w .receives) (held-sender c) l (at-start (at-shared-slice-known4 (at-shared-slice-known6 (c .before .before .before))) .args .rule),
+        λ l. figures-there g (w .reads) (w .receives) (held-sender c) l
+            (at-start (at-shared-slice-known4 (at-shared-slice-known6 (c .before .before .before))) .args .rule),
       ),
     )
 
