@@ -161,11 +161,10 @@ module _ {rule : ℕ} {S : Setting} where
           passed = first-pass _ (q .number) (h .passed) e;
         }
 
-    -- a pair that does not break the rule
-    pub skip-pair : breaksPair rule S p q ≡ false → AtSender rule S p count answer (q .number + 1)
-    skip-pair e =
-        pair-passed (found-at ∙ clear-under (alive S p q) _ (λ l.
-        clear-first count _ (λ n k. clear-test _ _ (each-figure rule S p q (whole _ l e) n (rw (h .many) at k)))))
+    -- a pair that is not live
+    pub skip-pair : alive S p q ≡ false → AtSender rule S p count answer (q .number + 1)
+    unfolding under
+    skip-pair e = pair-passed (found-at ∙ rw e)
 
     -- a live pair, before its figures
     pub pair : alive S p q ≡ true → AtFigure rule S p count q answer 0

@@ -55,6 +55,18 @@ fn meet(rows: &[u64], p: Side, q: Side) -> bool
     marks::shares(rows, p.node.name, rows, q.node.name)
 }
 
+// Receiver p and q are a live pair.
+fn live(balances: usize, rows: &[u64], loads: &[u32], bounds: &[u32], p: Side, q: Side) -> bool
+    requires { ⌜ (balances ≤ length (now bounds)) × HalfRow (now loads) balances (p .number) × HalfRow (now loads) balances (q .number) ⌝ }
+    requires { ⌜ (isAgent (nodeOf (p .node)) ≡ true) × NameRow (now rows) p × NameRow (now rows) q ⌝ }
+    ensures { λ b. ⌜ b ≡ livePair (now (rows .entry)) (now (loads .entry)) (now (bounds .entry)) balances p q ⌝ }
+{
+    if !meet(rows, p, q) {
+        return false;
+    }
+    fit_both(balances, loads, bounds, p.number, q.number)
+}
+
 // How many figures the rule looks at: none where the node is no receiver.
 pub fn figures(rule: u8, balances: usize, r: Record) -> usize
     ensures { λ n. ⌜ n ≡ figuresOf rule balances r ⌝ }
@@ -186,7 +198,8 @@ fn figure_holds(rule: u8, rows: &[u64], loads: &[u32], p: Side, q: Side, n: usiz
     )
 }
 
-// The pair is live, and breaks the rule. Balances that would end its life are looked at last.
+// The pair is live, and breaks the rule. Balances that would end its life are looked at last. For the filter, which asks this of many pairs; the
+// search below asks for the place, of few.
 pub fn breaks(
     rule: u8,
     balances: usize,
@@ -248,7 +261,7 @@ pub fn first_pair(
                 number: j,
                 node: records::node_at(file, t, j),
             };
-            if !breaks(rule, balances, rows, loads, bounds, p, q) {
+            if !live(balances, rows, loads, bounds, p, q) {
                 continue 'sender;
             }
             // In rule 3 the last figure is an argument, in rule 4 a balance.

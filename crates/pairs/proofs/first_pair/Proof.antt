@@ -4,11 +4,10 @@ use mathlib.Core.Path.{_≡_, sym, _∙_, subst}
 use mathlib.Core.Bool.{true}
 use denote.Ref.{now}
 use borrow.Author.Tests.{not-true, not-false}
-use Rattle.laws.proofs.Search.{and-split}
 use Rattle.records.proofs.KindLaws.{receiver-is}
 use Rattle.pairs.specs.declared.Side.{Side}
 use Rattle.pairs.specs.Pairs.{Setting, setting, Held, SmallFigure}
-use Rattle.pairs.proofs.Laws.{alive, name-row, half-pair, argument-rows, figures-there}
+use Rattle.pairs.proofs.Laws.{alive, name-row, half-pair, argument-rows}
 use Rattle.pairs.proofs.Search.{AtReceiver, AtSender, AtFigure, begin, row-passed, nothing-row, row, nowhere, skip-pair}
 use Rattle.pairs.proofs.Search.{pair, figure-near, next-row, pass, next-pair, found, small-figure}
 use borrow.Author.Needs.{needs}
@@ -60,10 +59,10 @@ module _ (c : tie.After-node-at2 Inv-balance μ-balance Inv-sender μ-sender Inv
   held-sender : Held (given (first-read c)) sender
   held-sender = record { below = c .before .sender-test .taken; is = c .node-at2 .ensures }
 
--- a pair that breaks the rule is live
+-- a pair that was found to be live
 lives : (c : tie.Else3 Inv-balance μ-balance Inv-sender μ-sender Inv-receiver μ-receiver)
     → let b = c .before .before in alive (given (first-read b)) (receiver (first-read b)) (sender b) ≡ true
-lives c = and-split _ _ (sym (c .before .breaks .ensures) ∙ not-false _ (c .if3 .left)) .0
+lives c = sym (c .before .live .ensures) ∙ not-false _ (c .if3 .left)
 
 -- stations
 abbrev at-shared-slice-known4 : tie.After-shared-slice-known6 Inv-balance μ-balance Inv-sender μ-sender Inv-receiver μ-receiver
@@ -73,10 +72,6 @@ at-shared-slice-known4 c = c .before .before .before .before
 abbrev at-start : tie.After-shared-slice-known4 Inv-balance μ-balance Inv-sender μ-sender Inv-receiver μ-receiver
     → tie.Start Inv-balance μ-balance Inv-sender μ-sender Inv-receiver μ-receiver
 at-start c = c .before .before .before .before
-
-abbrev at-shared-slice-known6 : tie.Else2 Inv-balance μ-balance Inv-sender μ-sender Inv-receiver μ-receiver
-    → tie.After-shared-slice-known6 Inv-balance μ-balance Inv-sender μ-sender Inv-receiver μ-receiver
-at-shared-slice-known6 c = c .before .before .before .before
 
 receiver-holds : tie.Need-receiver-holds Inv-balance μ-balance Inv-sender μ-sender Inv-receiver μ-receiver
 receiver-holds c =
@@ -96,25 +91,21 @@ sender-holds : tie.Need-sender-holds Inv-balance μ-balance Inv-sender μ-sender
 sender-holds c =
     row (c .before .before .before .before .before .before .receiver .inv) (held-receiver (c .before .before)) (c .before .figures .ensures) (c .if2 .left)
 
-breaks-requires : tie.Need-breaks-requires Inv-balance μ-balance Inv-sender μ-sender Inv-receiver μ-receiver
-breaks-requires c κs =
+live-requires : tie.Need-live-requires Inv-balance μ-balance Inv-sender μ-sender Inv-receiver μ-receiver
+live-requires c κs =
     let w = c .before .before .sender .inv in
     let g = w .receiver .given in
     let half = g .weighed .half in
     let few = g .lists .few in
     let many = g .lists .manyBounds in (
       (omega arith, half _ (w .reads .below), half _ (c .before .sender-test .taken)),
-      (
-        (receiver-is _ (w .receives) .0, name-row g (w .reads), name-row g (held-sender c)),
-        λ l. figures-there g (w .reads) (w .receives) (held-sender c) l
-            (at-start (at-shared-slice-known4 (at-shared-slice-known6 (c .before .before .before))) .args .rule),
-      ),
+      (receiver-is _ (w .receives) .0, name-row g (w .reads), name-row g (held-sender c)),
     )
 
 sender-again : tie.Need-sender-again Inv-balance μ-balance Inv-sender μ-sender Inv-receiver μ-receiver
 sender-again c =
     skip-pair {q = sender (c .before .before)} (c .before .before .before .before .sender .inv) (held-sender (c .before .before))
-    (sym (c .before .breaks .ensures) ∙ not-true _ (c .if3 .taken))
+    (sym (c .before .live .ensures) ∙ not-true _ (c .if3 .taken))
 
 balance-holds : tie.Need-balance-holds Inv-balance μ-balance Inv-sender μ-sender Inv-receiver μ-receiver
 balance-holds c = pair (c .before .before .before .before .sender .inv) (held-sender (c .before .before)) (lives c)
@@ -163,6 +154,6 @@ first-pair-spec =
     (tie.spec
     Inv-balance μ-balance Inv-sender μ-sender Inv-receiver μ-receiver receiver-holds (λ c. search needs) (λ c. search needs) (λ c. search needs)
     receiver-again (λ c κs. search needs) (λ c κs. search needs) (λ c. search needs) (λ c. search needs) receiver-again-2 sender-holds
-    (λ c κs. search needs) breaks-requires (λ c. search needs) (λ c. search needs) sender-again balance-holds figure-holds-requires
+    (λ c κs. search needs) live-requires (λ c. search needs) (λ c. search needs) sender-again balance-holds figure-holds-requires
     (λ c. search needs) (λ c. search needs) balance-again (λ c. search needs) (λ c. search needs) sender-again-2 (λ c. search needs)
     (λ c. search needs) receiver-again-3 returns returns-2)
