@@ -115,12 +115,12 @@ screened-set rule a t suspects i x fits before here j h e =
     ]
 
 -- sets without a sender
-pub empty-room : Room (family (replicate 768 0) (replicate 1152 0) (replicate 8 0))
+pub empty-room : Room (family (replicate 384 0) (replicate 576 0) (replicate 4 0))
 empty-room = record {
-  needs = length-replicate {A = ℕ} 768 0;
-  unions = length-replicate {A = ℕ} 1152 0;
-  arities = length-replicate {A = ℕ} 8 0;
-  half = λ g k. rw (getD-zeros 768 (entryIndex g k)) (omega arith);
+  needs = length-replicate {A = ℕ} 384 0;
+  unions = length-replicate {A = ℕ} 576 0;
+  arities = length-replicate {A = ℕ} 4 0;
+  half = λ g k. rw (getD-zeros 384 (entryIndex g k)) (omega arith);
 }
 
 -- at first every node is a suspect

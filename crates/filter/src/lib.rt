@@ -1,6 +1,6 @@
 // Which receivers may be in a live pair that breaks rule 3 or 4: sets of senders are asked before single senders.
 // Promises that nothing is found at a receiver that is no suspect: its contract goes one way, and the search over pairs says the rest. Depends on
-// senders (the sets), pairs (a pair alone), loads, arrays, records, marks, wire, model and laws. The lists of the sets take 15,400 bytes of stack.
+// senders (the sets), pairs (a pair alone), loads, arrays, records, marks, wire, model and laws. The lists of the sets take 8,256 bytes of stack.
 ghost use mathlib.Core.Path.{_≡_};
 ghost use mathlib.Core.Bool.{true};
 ghost use Prim.Native.Nat.{ℕ, _<_, _≤_};
@@ -20,7 +20,7 @@ use records::Trailer;
 
 // A sender of set g may reach receiver p.
 fn may_come(unions: &[u64], arities: &[u64], rows: &[u64], g: usize, p: Side) -> bool
-    requires { ⌜ (g < 32) × (p .node .arity ≤ 8) × (length (now arities) ≡ 8) × HasRow (now unions) g × HasRow (now rows) (p .node .name) ⌝ }
+    requires { ⌜ (g < 16) × (p .node .arity ≤ 8) × (length (now arities) ≡ 4) × HasRow (now unions) g × HasRow (now rows) (p .node .name) ⌝ }
     ensures { λ b. ⌜ b ≡ mayCome (now (unions .entry)) (now (arities .entry)) (now (rows .entry)) g p ⌝ }
 {
     if !marks::is_marked(arities, 0, 16 * g + p.node.arity) {
@@ -31,7 +31,7 @@ fn may_come(unions: &[u64], arities: &[u64], rows: &[u64], g: usize, p: Side) ->
 
 // Rule 3 beside all that set g sends.
 fn args_inside(unions: &[u64], rows: &[u64], g: usize, r: Record) -> bool
-    requires { ⌜ (g < 32) × ArgRows (now unions) (now rows) g r ⌝ }
+    requires { ⌜ (g < 16) × ArgRows (now unions) (now rows) g r ⌝ }
     ensures { λ b. ⌜ b ≡ every (r .arity) (argInside (now (unions .entry)) (now (rows .entry)) g (r .args)) ⌝ }
 {
     let args = r.args;
@@ -40,7 +40,7 @@ fn args_inside(unions: &[u64], rows: &[u64], g: usize, r: Record) -> bool
     let mut m: usize = 0;
     while m < arity {
         inside = inside
-            & marks::contained(unions, 32 + (8 * g + m), rows, wire::byte_index(args[m]));
+            & marks::contained(unions, 16 + (8 * g + m), rows, wire::byte_index(args[m]));
         m += 1;
     }
     inside
@@ -80,7 +80,7 @@ fn figures_pass(
     g: usize,
     p: Side,
 ) -> bool
-    requires { ⌜ (g < 32) × ArgRows (now unions) (now rows) g (p .node) × NeedRows balances (now needs) (now loads) g (p .number) (p .node .left) ⌝ }
+    requires { ⌜ (g < 16) × ArgRows (now unions) (now rows) g (p .node) × NeedRows balances (now needs) (now loads) g (p .number) (p .node .left) ⌝ }
     ensures { λ b. ⌜ b ≡ figuresPass rule balances (now (needs .entry)) (now (unions .entry)) (now (rows .entry)) (now (loads .entry)) g p ⌝ }
 {
     if rule == 3 {
@@ -110,7 +110,7 @@ fn members_pass(
     g: usize,
     p: Side,
 ) -> bool
-    requires { ⌜ Given (setting (now file) t balances (now rows) (now loads) (now bounds)) × (length (now links) ≡ 1056) × (g < 32) ⌝ }
+    requires { ⌜ Given (setting (now file) t balances (now rows) (now loads) (now bounds)) × (length (now links) ≡ 1040) × (g < 16) ⌝ }
     requires { ⌜ Reads (now file) t (p .number) (p .node) × (isReceiver (nodeOf (p .node)) ≡ true) ⌝ }
     ensures { λ b. ⌜ (b ≡ true → (sets : List ℕ) (count : ℕ) → Linked (now (file .entry)) t sets count (now (links .entry))
         → SetSound rule (setting (now (file .entry)) t balances (now (rows .entry)) (now (loads .entry)) (now (bounds .entry))) sets count p g) ⌝ }
@@ -153,7 +153,7 @@ fn set_passes(
     p: Side,
 ) -> bool
     requires { ⌜ Given (setting (now file) t balances (now rows) (now loads) (now bounds)) × Room (family (now needs) (now unions) (now arities))
-        × (length (now links) ≡ 1056) × (g < 32) ⌝ }
+        × (length (now links) ≡ 1040) × (g < 16) ⌝ }
     requires { ⌜ Reads (now file) t (p .number) (p .node) × (isReceiver (nodeOf (p .node)) ≡ true) ⌝ }
     ensures { λ b. ⌜ (b ≡ true → (sets : List ℕ) (count : ℕ)
         → Collected rule (setting (now (file .entry)) t balances (now (rows .entry)) (now (loads .entry)) (now (bounds .entry)))
@@ -190,7 +190,7 @@ fn passes(
     count: usize,
     p: Side,
 ) -> bool
-    requires { ⌜ Given (setting (now file) t balances (now rows) (now loads) (now bounds)) × (length (now links) ≡ 1056) × (count ≤ 32) ⌝ }
+    requires { ⌜ Given (setting (now file) t balances (now rows) (now loads) (now bounds)) × (length (now links) ≡ 1040) × (count ≤ 16) ⌝ }
     requires { ⌜ Kept rule (setting (now file) t balances (now rows) (now loads) (now bounds)) (family (now needs) (now unions) (now arities))
         (now links) deep count ⌝ }
     requires { ⌜ Reads (now file) t (p .number) (p .node) × (isReceiver (nodeOf (p .node)) ≡ true) ⌝ }
@@ -239,7 +239,7 @@ fn suspicion(
     count: usize,
     i: usize,
 ) -> u8
-    requires { ⌜ Given (setting (now file) t balances (now rows) (now loads) (now bounds)) × (length (now links) ≡ 1056) × (count ≤ 32) ⌝ }
+    requires { ⌜ Given (setting (now file) t balances (now rows) (now loads) (now bounds)) × (length (now links) ≡ 1040) × (count ≤ 16) ⌝ }
     requires { ⌜ Kept rule (setting (now file) t balances (now rows) (now loads) (now bounds)) (family (now needs) (now unions) (now arities))
         (now links) deep count ⌝ }
     requires { ⌜ (i < t .nodes) × (before ≡ 0 → pairsAt rule (arrayOf (now file) t) (listTable (now rows) (now loads) (now bounds) balances) i ≡ clear) ⌝ }
@@ -294,7 +294,7 @@ fn sift(
     deep: bool,
     count: usize,
 )
-    requires { ⌜ Given (setting (now file) t balances (now rows) (now loads) (now bounds)) × (length (now links) ≡ 1056) × (count ≤ 32) ⌝ }
+    requires { ⌜ Given (setting (now file) t balances (now rows) (now loads) (now bounds)) × (length (now links) ≡ 1040) × (count ≤ 16) ⌝ }
     requires { ⌜ Kept rule (setting (now file) t balances (now rows) (now loads) (now bounds)) (family (now needs) (now unions) (now arities))
         (now links) deep count ⌝ }
     requires { ⌜ (length (now suspects) ≡ 1024)
@@ -328,8 +328,8 @@ fn sift(
 
 // Links the senders of each set where they are to be looked at one by one.
 fn link_if(links: &mut [u16], deep: bool, sets: &[u8], count: usize, file: &[u8], t: Trailer)
-    requires { ⌜ RecordsFit (now file) t × (t .nodes ≤ 1024) × (length (now sets) ≡ 1024) × (0 < count) × (count ≤ 32) ⌝ }
-    requires { ⌜ now links ≡ replicate 1056 0 ⌝ }
+    requires { ⌜ RecordsFit (now file) t × (t .nodes ≤ 1024) × (length (now sets) ≡ 1024) × (0 < count) × (count ≤ 16) ⌝ }
+    requires { ⌜ now links ≡ replicate 1040 0 ⌝ }
     ensures { λ _. ⌜ (deep ≡ true → Linked (now (file .entry)) t (now (sets .entry)) count (now (links .exit))) ⌝ }
 {
     if !deep {
@@ -352,16 +352,16 @@ fn ask(
     count: usize,
     deep: bool,
 )
-    requires { ⌜ Given (setting (now file) t balances (now rows) (now loads) (now bounds)) × (length (now sets) ≡ 1024) × (0 < count) × (count ≤ 32) ⌝ }
+    requires { ⌜ Given (setting (now file) t balances (now rows) (now loads) (now bounds)) × (length (now sets) ≡ 1024) × (0 < count) × (count ≤ 16) ⌝ }
     requires { ⌜ (length (now suspects) ≡ 1024)
         × Screened rule (arrayOf (now file) t) (listTable (now rows) (now loads) (now bounds) balances) (now suspects) ⌝ }
     ensures { λ _. ⌜ Screened rule (arrayOf (now (file .entry)) t)
         (listTable (now (rows .entry)) (now (loads .entry)) (now (bounds .entry)) balances) (now (suspects .exit)) ⌝ }
 {
-    let mut needs = [0u32; 768];
-    let mut unions = [0u64; 1152];
-    let mut arities = [0u64; 8];
-    let mut links = [0u16; 1056];
+    let mut needs = [0u32; 384];
+    let mut unions = [0u64; 576];
+    let mut arities = [0u64; 4];
+    let mut links = [0u16; 1040];
     senders::collect(
         rule,
         &mut needs,
@@ -410,6 +410,7 @@ fn some_left(suspects: &[u8], nodes: usize) -> bool
 // The suspects that are left when smaller sets are asked, and their senders one by one.
 fn ask_closely(
     suspects: &mut [u8],
+    sets: &mut [u8],
     rule: u8,
     file: &[u8],
     t: Trailer,
@@ -418,7 +419,7 @@ fn ask_closely(
     loads: &[u32],
     bounds: &[u32],
 )
-    requires { ⌜ Given (setting (now file) t balances (now rows) (now loads) (now bounds)) ⌝ }
+    requires { ⌜ Given (setting (now file) t balances (now rows) (now loads) (now bounds)) × (length (now sets) ≡ 1024) ⌝ }
     requires { ⌜ (length (now suspects) ≡ 1024)
         × Screened rule (arrayOf (now file) t) (listTable (now rows) (now loads) (now bounds) balances) (now suspects) ⌝ }
     ensures { λ _. ⌜ Screened rule (arrayOf (now (file .entry)) t)
@@ -427,8 +428,7 @@ fn ask_closely(
     if !some_left(suspects, t.nodes) {
         return;
     }
-    let mut sets = [0u8; 1024];
-    senders::by_channel(&mut sets, file, t);
+    senders::by_channel(sets, file, t);
     ask(
         suspects,
         rule,
@@ -438,8 +438,8 @@ fn ask_closely(
         rows,
         loads,
         bounds,
-        &sets,
-        32,
+        sets,
+        16,
         true,
     );
 }
@@ -474,6 +474,16 @@ pub fn suspects(
         9,
         false,
     );
-    ask_closely(&mut list, rule, file, t, balances, rows, loads, bounds);
+    ask_closely(
+        &mut list,
+        &mut sets,
+        rule,
+        file,
+        t,
+        balances,
+        rows,
+        loads,
+        bounds,
+    );
     list
 }

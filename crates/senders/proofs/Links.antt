@@ -23,17 +23,17 @@ module _ (f : List ℕ) (t : Trailer) (sets : List ℕ) (count : ℕ) where
 
   -- the senders below node n are linked
   pub record LinkedTo (links : List ℕ) (n : ℕ) : Type 0 where
-    pub size : length links ≡ 1056
+    pub size : length links ≡ 1040
     pub last : (g q : ℕ) → Of g q → q < n → q < getD links (1024 + g) 0
     pub lastOf : (g q : ℕ) → getD links (1024 + g) 0 ≡ q + 1 → Of g q × (q < n)
     pub before : (g p q : ℕ) → Of g p → Of g q → q < n → p < q → p < getD links q 0
     pub beforeOf : (g p q : ℕ) → Of g q → q < n → getD links q 0 ≡ p + 1 → Of g p × (p < q)
 
-  pub linked-none : LinkedTo (replicate 1056 0) 0
+  pub linked-none : LinkedTo (replicate 1040 0) 0
   linked-none = record {
-    size = length-replicate {A = ℕ} 1056 0;
+    size = length-replicate {A = ℕ} 1040 0;
     last = λ g q h l. absurd (omega arith);
-    lastOf = λ g q e. absurd (omega (arith, getD-zeros 1056 (1024 + g), e));
+    lastOf = λ g q e. absurd (omega (arith, getD-zeros 1040 (1024 + g), e));
     before = λ g p q h k l. absurd (omega arith);
     beforeOf = λ g p q h l. absurd (omega arith);
   }
@@ -74,7 +74,7 @@ module _ (f : List ℕ) (t : Trailer) (sets : List ℕ) (count : ℕ) where
           | inr e ↦ e
         ]
 
-    module _ (on : sends ≡ true) (few : own < 32) where
+    module _ (on : sends ≡ true) (few : own < 16) where
       abbrev lead : ℕ
       lead = getD links (1024 + own) 0
 
@@ -84,7 +84,7 @@ module _ (f : List ℕ) (t : Trailer) (sets : List ℕ) (count : ℕ) where
       abbrev more : List ℕ
       more = set half (1024 + own) (q + 1)
 
-      room-is : length half ≡ 1056
+      room-is : length half ≡ 1040
       room-is = length-set links q lead ∙ l .size
 
       -- the entries written, and the others
@@ -150,5 +150,5 @@ module _ (f : List ℕ) (t : Trailer) (sets : List ℕ) (count : ℕ) where
         beforeOf = linked-beforeOf;
       }
 
-    pub linked-more : own < 32 → LinkedTo (linkIf links sends own q) (q + 1)
+    pub linked-more : own < 16 → LinkedTo (linkIf links sends own q) (q + 1)
     linked-more few = elim (decided sends) [ inl e ↦ rw e (linked-put e few) | inr e ↦ rw e (linked-skip e) ]

@@ -27,13 +27,13 @@ arityMark g n = 16 * g + n
 
 -- the row of what is sent as argument m; row g is that of the channels
 abbrev pub sentRow : ℕ → ℕ → ℕ
-sentRow g m = 32 + (8 * g + m)
+sentRow g m = 16 + (8 * g + m)
 
 -- "the largest need": what a sender needs of a receiver in balance k, load of the continuation + 65,536 − weight
 abbrev pub needOf : List ℕ → Side → ℕ → ℕ
 needOf loads q k = (loadIn loads (q .node .left) k + 65536) - loadIn loads (q .number) k
 
--- the lists of a family of at most 32 sets: what they need, rows of channels and of what is sent, arities
+-- the lists of a family of at most 16 sets: what they need, rows of channels and of what is sent, arities
 pub record Family : Type 0 where
   pub needs : List ℕ
   pub unions : List ℕ
@@ -43,9 +43,9 @@ abbrev pub family : List ℕ → List ℕ → List ℕ → Family
 family needs unions arities = record { needs = needs; unions = unions; arities = arities }
 
 pub record Room (F : Family) : Type 0 where
-  pub needs : length (F .needs) ≡ 768
-  pub unions : length (F .unions) ≡ 1152
-  pub arities : length (F .arities) ≡ 8
+  pub needs : length (F .needs) ≡ 384
+  pub unions : length (F .unions) ≡ 576
+  pub arities : length (F .arities) ≡ 4
   -- the sum of an entry and a load fits 32 bits
   pub half : (g k : ℕ) → loadIn (F .needs) g k < 2147483648
 
@@ -124,7 +124,7 @@ linkIf links on g q = cond on (set (set links q (getD links (1024 + g) 0)) (1024
 
 -- entry 1,024 + g is 1 + the last sender of set g, and entry q 1 + the sender of its set before q; 0 is none
 pub record Linked (f : List ℕ) (t : Trailer) (sets : List ℕ) (count : ℕ) (links : List ℕ) : Type 0 where
-  pub size : length links ≡ 1056
+  pub size : length links ≡ 1040
   pub last : (g q : ℕ) → Member f t sets count g q → q < getD links (1024 + g) 0
   pub lastOf : (g q : ℕ) → getD links (1024 + g) 0 ≡ q + 1 → Member f t sets count g q
   pub before : (g p q : ℕ) → Member f t sets count g p → Member f t sets count g q → p < q → p < getD links q 0

@@ -26,7 +26,7 @@ pub fn by_arity(sets: &mut [u8], file: &[u8], t: Trailer)
     let mut q: usize = 0;
     while q < t.nodes {
         let r = records::node_at(file, t, q);
-        sets[q] = (r.arity % 32) as u8;
+        sets[q] = (r.arity % 16) as u8;
         q += 1;
     }
 }
@@ -42,7 +42,7 @@ fn one_more(x: u8, on: bool) -> u8 {
     x + 1
 }
 
-// Eight senders on one channel, in order, are in one set, the next eight in another.
+// Sixteen senders on one channel, in order, are in one set, the next sixteen in another.
 pub fn by_channel(sets: &mut [u8], file: &[u8], t: Trailer)
     requires { ⌜ RecordsFit (now file) t × (t .nodes ≤ 1024) × (length (now sets) ≡ 1024) ⌝ }
 {
@@ -52,7 +52,7 @@ pub fn by_channel(sets: &mut [u8], file: &[u8], t: Trailer)
         let r = records::node_at(file, t, q);
         let c = r.name % 256;
         let before = wire::byte_index(seen[c]);
-        sets[q] = ((c + before / 8) % 32) as u8;
+        sets[q] = ((c + before / 16) % 16) as u8;
         seen[c] = one_more(seen[c], records::sends(r));
         q += 1;
     }
@@ -85,7 +85,7 @@ fn greater(x: u32, need: u32) -> u32
 
 // Set g keeps what sender q needs.
 fn join_needs(needs: &mut [u32], g: usize, balances: usize, loads: &[u32], q: Side)
-    requires { ⌜ (length (now needs) ≡ 768) × HalfNeeds (now needs) × (g < 32) × NeedsThere balances (now loads) q ⌝ }
+    requires { ⌜ (length (now needs) ≡ 384) × HalfNeeds (now needs) × (g < 16) × NeedsThere balances (now loads) q ⌝ }
     ensures { λ _. ⌜ NeedsGrow (now (needs .entry)) (now (needs .exit)) × NeedsKept balances (now (loads .entry)) (now (needs .exit)) g q ⌝ }
 {
     let left = q.node.left;
@@ -100,14 +100,14 @@ fn join_needs(needs: &mut [u32], g: usize, balances: usize, loads: &[u32], q: Si
 
 // Set g keeps the rows of what sender q sends.
 fn join_sent(unions: &mut [u64], g: usize, rows: &[u64], r: Record)
-    requires { ⌜ (length (now unions) ≡ 1152) × (g < 32) × SentRows (now rows) r ⌝ }
+    requires { ⌜ (length (now unions) ≡ 576) × (g < 16) × SentRows (now rows) r ⌝ }
     ensures { λ _. ⌜ RowsGrow (now (unions .entry)) (now (unions .exit)) × SentKept (now (rows .entry)) (now (unions .exit)) g r ⌝ }
 {
     let args = r.args;
     let arity = r.arity;
     let mut m: usize = 0;
     while m < arity {
-        marks::join(unions, 32 + (8 * g + m), rows, wire::byte_index(args[m]));
+        marks::join(unions, 16 + (8 * g + m), rows, wire::byte_index(args[m]));
         m += 1;
     }
 }
@@ -123,7 +123,7 @@ fn join_figures(
     loads: &[u32],
     q: Side,
 )
-    requires { ⌜ (length (now needs) ≡ 768) × HalfNeeds (now needs) × (length (now unions) ≡ 1152) × (g < 32) ⌝ }
+    requires { ⌜ (length (now needs) ≡ 384) × HalfNeeds (now needs) × (length (now unions) ≡ 576) × (g < 16) ⌝ }
     requires { ⌜ SentRows (now rows) (q .node) × NeedsThere balances (now loads) q ⌝ }
     ensures { λ _. ⌜ NeedsGrow (now (needs .entry)) (now (needs .exit)) × RowsGrow (now (unions .entry)) (now (unions .exit)) ⌝ }
     ensures { λ _. ⌜ (eqb rule 3 ≡ true → SentKept (now (rows .entry)) (now (unions .exit)) g (q .node))
@@ -148,7 +148,7 @@ fn join_sender(
     loads: &[u32],
     q: Side,
 )
-    requires { ⌜ Room (family (now needs) (now unions) (now arities)) × (g < 32) ⌝ }
+    requires { ⌜ Room (family (now needs) (now unions) (now arities)) × (g < 16) ⌝ }
     requires { ⌜ (isOut (nodeOf (q .node)) ≡ true → Askable balances (now rows) (now loads) q) ⌝ }
     ensures { λ _. ⌜ Grown (family (now (needs .entry)) (now (unions .entry)) (now (arities .entry)))
         (family (now (needs .exit)) (now (unions .exit)) (now (arities .exit))) ⌝ }
@@ -178,7 +178,7 @@ pub fn collect(
     loads: &[u32],
 )
     requires { ⌜ ((bounds : List ℕ) × Given (setting (now file) t balances (now rows) (now loads) bounds)) × (length (now sets) ≡ 1024) ⌝ }
-    requires { ⌜ (0 < count) × (count ≤ 32) × Room (family (now needs) (now unions) (now arities)) ⌝ }
+    requires { ⌜ (0 < count) × (count ≤ 16) × Room (family (now needs) (now unions) (now arities)) ⌝ }
     ensures { λ _. ⌜ ((bounds : List ℕ) → Collected rule (setting (now (file .entry)) t balances (now (rows .entry)) (now (loads .entry)) bounds)
         (family (now (needs .exit)) (now (unions .exit)) (now (arities .exit))) (now (sets .entry)) count (t .nodes)) ⌝ }
 {
@@ -198,7 +198,7 @@ pub fn collect(
 
 // Node q comes before the senders of set g so far, where `on` is true.
 fn link_if(links: &mut [u16], on: bool, g: usize, q: usize)
-    requires { ⌜ (length (now links) ≡ 1056) × (g < 32) × (q < 1024) ⌝ }
+    requires { ⌜ (length (now links) ≡ 1040) × (g < 16) × (q < 1024) ⌝ }
     ensures { λ _. ⌜ now (links .exit) ≡ linkIf (now (links .entry)) on g q ⌝ }
 {
     if !on {
@@ -211,8 +211,8 @@ fn link_if(links: &mut [u16], on: bool, g: usize, q: usize)
 
 // Links the senders of each set.
 pub fn link(links: &mut [u16], sets: &[u8], count: usize, file: &[u8], t: Trailer)
-    requires { ⌜ RecordsFit (now file) t × (t .nodes ≤ 1024) × (length (now sets) ≡ 1024) × (0 < count) × (count ≤ 32) ⌝ }
-    requires { ⌜ now links ≡ replicate 1056 0 ⌝ }
+    requires { ⌜ RecordsFit (now file) t × (t .nodes ≤ 1024) × (length (now sets) ≡ 1024) × (0 < count) × (count ≤ 16) ⌝ }
+    requires { ⌜ now links ≡ replicate 1040 0 ⌝ }
     ensures { λ _. ⌜ Linked (now (file .entry)) t (now (sets .entry)) count (now (links .exit)) ⌝ }
 {
     let mut q: usize = 0;

@@ -28,14 +28,15 @@ ask-requires c κs =
 
 ask-closely-requires : tie.Need-ask-closely-requires
 ask-closely-requires c κs =
-    let g = at-start (at-shared-slice-known4 (at-list c)) .pre in
-    (g, (search needs, c .before .before .ask .ensures))
+    let g = at-start (at-shared-slice-known4 (at-list (c .before))) .pre in
+    ((g, search needs), (search needs, c .before .before .before .ask .ensures))
 
 returns : tie.Need-returns
-returns c = c .before .ask-closely .ensures
+returns c = c .before .before .ask-closely .ensures
 
 pub suspects-spec : {M : Type 1} → statement M
 suspects-spec =
     tie.close
     (tie.spec
-    (λ c. search needs) by-arity-requires (λ c. search needs) (λ c. search needs) ask-requires (λ c. search needs) ask-closely-requires returns)
+    (λ c. search needs) by-arity-requires (λ c. search needs) (λ c. search needs) ask-requires (λ c. search needs) (λ c. search needs)
+    ask-closely-requires returns)

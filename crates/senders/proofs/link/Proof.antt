@@ -24,9 +24,9 @@ begun c = c .before .before .before .before
 abbrev looped : tie.After-set-of Inv-loop μ-loop → tie.At-loop Inv-loop μ-loop
 looped c = c .before .before .before .before .before .before
 
--- the set is one of at most 32, and the node one of at most 1,024
+-- the set is one of at most 16, and the node one of at most 1,024
 small : (c : tie.After-set-of Inv-loop μ-loop) → let x = begun (looped c) .args in
-    (setOf (now (x .sets)) (x .count) (looped c .loop .q) < 32) × (looped c .loop .q < 1024)
+    (setOf (now (x .sets)) (x .count) (looped c .loop .q) < 16) × (looped c .loop .q < 1024)
 small c =
     let s = begun (looped c) in
     let p = s .pre .0 in
@@ -52,7 +52,7 @@ loop-again c =
     )
 
 same-length : tie.Need-same-length Inv-loop μ-loop
-same-length c = c .before .before .loop .inv .1 .size ∙ sym (ap length (begun (c .before .before) .pre .1) ∙ length-replicate {A = ℕ} 1056 0)
+same-length c = c .before .before .loop .inv .1 .size ∙ sym (ap length (begun (c .before .before) .pre .1) ∙ length-replicate {A = ℕ} 1040 0)
 
 returns : tie.Need-returns Inv-loop μ-loop
 returns c =
