@@ -3,12 +3,12 @@ use Prim.Native.Nat.{ℕ, _+_, _≤_, _<_}
 use native.Mathlib.Omega.{arith}
 use mathlib.Core.Path.{_≡_, refl, sym, ap, _∙_}
 use mathlib.Core.Logic.{inl, inr}
-use mathlib.Core.Bool.{Bool, true, false, cond, true≢false}
+use mathlib.Core.Bool.{Bool, true, false, true≢false}
 use mathlib.Core.List.{List}
-use lib.Dec.{eqb, ltb}
-use lib.ListN.{length, getD, set, replicate, length-replicate, getD-replicate}
+use lib.Dec.{eqb}
+use lib.ListN.{length, set, replicate, length-replicate, getD-replicate}
 use lib.Seq.{getD-set-same, getD-set-other}
-use borrow.Author.Tests.{eqb-true, eqb-false, leb-true, le-leb, ltb-true}
+use borrow.Author.Tests.{eqb-true, eqb-false, leb-true, le-leb}
 use Rattle.laws.specs.Search.{clear}
 use Rattle.laws.proofs.Search.{decided, and-join, every-true, true-every}
 use Rattle.laws.proofs.Lists.{getD-zeros}
@@ -28,6 +28,7 @@ use Rattle.pairs.specs.Pairs.{Setting, Given, Held, arrayIn, tableIn, pairsAt, 
 use Rattle.pairs.proofs.Laws.{alive, live-near, arities, live-shares}
 use Rattle.pairs.proofs.Search.{sound-row}
 use Rattle.senders.specs.Sets.{setOf, arityMark, needOf, Family, family, Room, Covers, Collected, Linked}
+use Rattle.senders.proofs.Laws.{set-below}
 use Rattle.filter.specs.Filter.{mayCome, figuresPass, SetSound, Sound, Kept}
 
 -- a pair that is not live, or at which the rule holds, breaks nothing
@@ -86,10 +87,7 @@ module _ (rule : ℕ) (S : Setting) (F : Family) (links : List ℕ) (deep : Bool
   -- each sender is in one of the sets
   pub sets-done : Kept rule S F links deep count → SetsSound count → Sound rule S p
   sets-done k all q hq sends =
-      all (k .sets) (k .collected) (k .linked) (setOf (k .sets) count (q .number)) (inside (getD (k .sets) (q .number) 0) (k .some)) q hq sends refl
-    where
-      inside : (x : ℕ) → 0 < count → cond (ltb x count) x 0 < count
-      inside x h = elim (decided (ltb x count)) [ inl e ↦ rw e (ltb-true x count e) | inr e ↦ rw e h ]
+      all (k .sets) (k .collected) (k .linked) (setOf (k .sets) count (q .number)) (set-below (k .sets) count (q .number) (k .some)) q hq sends refl
 
 -- ---- a node
 

@@ -18,9 +18,6 @@ use Rattle.pairs.proofs.Search.{sideAt}
 use Rattle.senders.specs.Sets.{Member, Linked}
 use Rattle.filter.specs.Filter.{SetSound}
 
-abbrev MemberIn : Setting → List ℕ → ℕ → ℕ → ℕ → Type 0
-MemberIn S sets count g j = Member (S .f) (S .t) sets count g j
-
 -- the next sender is of set g, and those of the set from there on break nothing
 pub record Passed (rule : ℕ) (S : Setting) (p : Side) (g : ℕ) (next : ℕ) (sets : List ℕ) (count : ℕ) : Type 0 where
   pub of : (j : ℕ) → next ≡ j + 1 → Member (S .f) (S .t) sets count g j

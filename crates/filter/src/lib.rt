@@ -327,7 +327,7 @@ fn sift(
 }
 
 // Links the senders of each set where they are to be looked at one by one.
-fn link_if(links: &mut [u16], deep: bool, sets: &[u8], count: usize, file: &[u8], t: Trailer)
+fn link_deep(links: &mut [u16], deep: bool, sets: &[u8], count: usize, file: &[u8], t: Trailer)
     requires { ⌜ RecordsFit (now file) t × (t .nodes ≤ 1024) × (length (now sets) ≡ 1024) × (0 < count) × (count ≤ 16) ⌝ }
     requires { ⌜ now links ≡ replicate 1040 0 ⌝ }
     ensures { λ _. ⌜ (deep ≡ true → Linked (now (file .entry)) t (now (sets .entry)) count (now (links .exit))) ⌝ }
@@ -375,7 +375,7 @@ fn ask(
         rows,
         loads,
     );
-    link_if(&mut links, deep, sets, count, file, t);
+    link_deep(&mut links, deep, sets, count, file, t);
     sift(
         suspects,
         rule,

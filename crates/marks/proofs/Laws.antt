@@ -4,7 +4,7 @@ use native.Mathlib.Nat.{zero-add}
 use native.Mathlib.Omega.{arith}
 use mathlib.Core.Path.{_≡_, refl, sym, ap, ap₂, _∙_}
 use mathlib.Core.Logic.{_⊎_, inl, inr, ⊎-elim}
-use mathlib.Core.Bool.{Bool, true, false, cond, not, _&&_, _||_, or-false}
+use mathlib.Core.Bool.{Bool, true, false, cond, not, _&&_, _||_, and-false, or-false}
 use mathlib.Core.List.{List}
 use lib.Bits.{bitOr}
 use lib.Dec.{eqb, ltb}
@@ -166,11 +166,7 @@ module _ (s : List ℕ) (u : ℕ) (t : List ℕ) (v w : ℕ) (fits : HasRow s u)
       both true b c d m = refl
       both false false c d m = refl
       both false true true d true = refl
-      both false true true d false = and-none d
-        where
-          and-none : (d : Bool) → d && false ≡ false
-          and-none true = refl
-          and-none false = refl
+      both false true true d false = and-false d
       both false true false d m = refl
 
       next : (o : ℕ) → ltb o (64 * w) || eqb (o / 64) w ≡ ltb o (64 * (w + 1))

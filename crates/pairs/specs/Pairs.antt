@@ -46,7 +46,7 @@ HalfRow loads n i = (k : ℕ) → k < n → Half loads i k
 pub record Weighed (loads : List ℕ) (a : Array) (n : ℕ) : Type 0 where
   pub half : (i : ℕ) → i < a .size → HalfRow loads n i
   pub weighs : (i k : ℕ) → i < a .size → k < n → loadIn loads i k ≡ load (λ j. loadIn loads j k) (procAt a i)
-  -- at most 1,024 weights of 16 bits each
+  -- at most 1,024 weights of 16 bits each, which are less than 2^27
   pub small : (i k : ℕ) → i < a .size → k < n → loadIn loads i k < 134217728
   pub light : (i k : ℕ) → isAgent (nodeAt a i) ≡ true → k < n → loadIn loads i k < 65536
 

@@ -1,4 +1,4 @@
-// One pass over the records, from the root up, that says yes only where none of the refusals 6 to 12 comes. A no says nothing: the reader then looks
+// One pass over the records, from the root down, that says yes only where none of the refusals 6 to 12 comes. A no says nothing: the reader then looks
 // for the refusal. Promises specs/Pass, Clear. Depends on fields, scopes and counts (the tests and tables of single refusals), records, marks, wire,
 // model and laws. The tables take 35,328 bytes of stack.
 ghost use mathlib.Core.Path.{_≡_};

@@ -42,19 +42,29 @@ pub record Family : Type 0 where
 abbrev pub family : List ℕ → List ℕ → List ℕ → Family
 family needs unions arities = record { needs = needs; unions = unions; arities = arities }
 
+-- the sum of an entry and a load fits 32 bits
+abbrev pub HalfNeeds : List ℕ → Type 0
+HalfNeeds needs = (g k : ℕ) → loadIn needs g k < 2147483648
+
 pub record Room (F : Family) : Type 0 where
   pub needs : length (F .needs) ≡ 384
   pub unions : length (F .unions) ≡ 576
   pub arities : length (F .arities) ≡ 4
-  -- the sum of an entry and a load fits 32 bits
-  pub half : (g k : ℕ) → loadIn (F .needs) g k < 2147483648
+  pub half : HalfNeeds (F .needs)
+
+-- set g keeps what a record sends, and what sender q needs in n balances
+abbrev pub SentKept : List ℕ → List ℕ → ℕ → Record → Type 0
+SentKept rows unions g r = (m : ℕ) → m < r .arity → inside rows (getD (r .args) m 0) unions (sentRow g m) ≡ true
+
+abbrev pub NeedsKept : ℕ → List ℕ → List ℕ → ℕ → Side → Type 0
+NeedsKept n loads needs g q = (k : ℕ) → k < n → needOf loads q k ≤ loadIn needs g k
 
 -- set g keeps what sender q asks of a receiver, by rule 3 what it sends, by rule 4 what it needs
 pub record Covers (rule : ℕ) (S : Setting) (F : Family) (g : ℕ) (q : Side) : Type 0 where
   pub arity : marked (F .arities) 0 (arityMark g (q .node .arity)) ≡ true
   pub channel : inside (S .rows) (q .node .name) (F .unions) g ≡ true
-  pub sent : eqb rule 3 ≡ true → (m : ℕ) → m < q .node .arity → inside (S .rows) (getD (q .node .args) m 0) (F .unions) (sentRow g m) ≡ true
-  pub needs : eqb rule 3 ≡ false → (k : ℕ) → k < S .n → needOf (S .loads) q k ≤ loadIn (F .needs) g k
+  pub sent : eqb rule 3 ≡ true → SentKept (S .rows) (F .unions) g (q .node)
+  pub needs : eqb rule 3 ≡ false → NeedsKept (S .n) (S .loads) (F .needs) g q
 
 -- each sender below node n is kept by its set
 pub record Collected (rule : ℕ) (S : Setting) (F : Family) (sets : List ℕ) (count n : ℕ) : Type 0 where
@@ -62,10 +72,6 @@ pub record Collected (rule : ℕ) (S : Setting) (F : Family) (sets : List ℕ) (
   pub covers : (q : Side) → Held S q → isOut (nodeOf (q .node)) ≡ true → q .number < n → Covers rule S F (setOf sets count (q .number)) q
 
 -- ---- how the lists grow while senders are collected
-
--- the sum of an entry and a load fits 32 bits
-abbrev pub HalfNeeds : List ℕ → Type 0
-HalfNeeds needs = (g k : ℕ) → loadIn needs g k < 2147483648
 
 -- no need gets smaller
 pub record NeedsGrow (before after : List ℕ) : Type 0 where
@@ -83,13 +89,6 @@ pub record Grown (F G : Family) : Type 0 where
   pub unions : RowsGrow (F .unions) (G .unions)
   pub size : length (G .arities) ≡ length (F .arities)
   pub arities : (o : ℕ) → marked (F .arities) 0 o ≡ true → marked (G .arities) 0 o ≡ true
-
--- set g keeps what a record sends, and what sender q needs in n balances
-abbrev pub SentKept : List ℕ → List ℕ → ℕ → Record → Type 0
-SentKept rows unions g r = (m : ℕ) → m < r .arity → inside rows (getD (r .args) m 0) unions (sentRow g m) ≡ true
-
-abbrev pub NeedsKept : ℕ → List ℕ → List ℕ → ℕ → Side → Type 0
-NeedsKept n loads needs g q = (k : ℕ) → k < n → needOf loads q k ≤ loadIn needs g k
 
 -- whatever the file and the bounds are
 abbrev pub KeptBy : ℕ → ℕ → List ℕ → List ℕ → Family → ℕ → Side → Type 0

@@ -27,8 +27,8 @@ collect-requires c κs =
     let pre = at-start (at-shared-slice-known3 (c .before)) .pre in
     (((now (at-start (at-shared-slice-known3 (c .before)) .args .bounds), pre .0 .0), pre .0 .1), (pre .0 .2, pre .0 .3, empty-room))
 
-link-if-requires : tie.Need-link-if-requires
-link-if-requires c κs =
+link-deep-requires : tie.Need-link-deep-requires
+link-deep-requires c κs =
     let pre = at-start (at-shared-slice-known3 (at-unions (c .before .before))) .pre in
     let r = pre .0 .0 .read in
     ((omega (arith, r .fills), r .formed .fewNodes, pre .0 .1, pre .0 .2, pre .0 .3), search needs)
@@ -42,7 +42,7 @@ sift-requires c κs =
         record {
           sets = now (s .args .sets);
           collected = at-unions2 (at-links2 (c .before)) .before .before .collect .ensures (now (s .args .bounds));
-          linked = c .before .before .before .before .before .before .link-if .ensures;
+          linked = c .before .before .before .before .before .before .link-deep .ensures;
           some = pre .0 .2;
         },
         pre .1,
@@ -56,5 +56,5 @@ pub ask-spec : {M : Type 1} → statement M
 ask-spec =
     tie.close
     (tie.spec
-    (λ c. search needs) (λ c. search needs) (λ c. search needs) collect-requires (λ c. search needs) link-if-requires (λ c. search needs)
+    (λ c. search needs) (λ c. search needs) (λ c. search needs) collect-requires (λ c. search needs) link-deep-requires (λ c. search needs)
     (λ c. search needs) (λ c. search needs) (λ c. search needs) sift-requires (λ c. search needs) returns)

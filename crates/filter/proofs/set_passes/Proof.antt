@@ -63,7 +63,7 @@ figures-pass-requires c κs =
     let room = s .pre .0 .1 in
     let agent = agent-p g hp (s .pre .1 .1) hp in
     let balances = g .lists .few in (
-      few,
+      omega (arith, few),
       λ m h. let a = small-arity (g .read) hp in (omega arith, omega (arith, few, room .unions), arg-row g hp agent m h),
       λ k h. (
         (omega (arith, few, room .needs, balances), room .half _ k),
