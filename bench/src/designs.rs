@@ -5,7 +5,7 @@
 mod defeats;
 mod fleet;
 
-pub use defeats::{defeat, defeat_rows, defeat_sparse, defeat_spread, ended};
+pub use defeats::{defeat, defeat3, defeat_sparse, ended, within, within_rows, within_sparse, within_spread};
 pub use fleet::{fleet, fleet_mixed};
 
 use crate::files::{array_file, chain, record, table_file, Agent, Balance, Claim, Record, IN, NEW, OUT, PAR};

@@ -111,9 +111,12 @@ fn filtered(name: &str, files: &Files) {
 fn filters() {
     head("Checks that the filter does not help", &DESIGN, "µs");
     check("defeat", &designs::defeat(1024, 24), 0);
-    check("defeat_rows", &designs::defeat_rows(1024, 256, 24), 0);
+    check("defeat3", &designs::defeat3(1024, 256, 24), 0);
     check("defeat_sparse", &designs::defeat_sparse(1024, 128, 24), 0);
-    check("defeat_spread", &designs::defeat_spread(1024, 24), 0);
+    check("within", &designs::within(1024, 24), 0);
+    check("within_rows", &designs::within_rows(1024, 256, 24), 0);
+    check("within_sparse", &designs::within_sparse(1024, 128, 24), 0);
+    check("within_spread", &designs::within_spread(1024, 24), 0);
     check("ended", &designs::ended(1024, 24), 0);
 
     let versions = ["proved", "tuned", "tuned with sets by arity", "tuned with sets by channel name"];

@@ -10,10 +10,13 @@ const RULES: [usize; 2] = [3, 4];
 const BALANCES: [usize; 3] = [0, 1, 24];
 const MOST_ARITY: usize = 8;
 
+/// Senders of a channel that are taken together, and how many such sets there may be.
+const SET: usize = 16;
+const SETS: usize = 12;
 /// Said of an array, and of a table with any answer.
 const SIZES: [&str; 4] = [
-    "over 32 channels with senders",
-    "over 32 eights of a channel's senders",
+    "over 12 channels with senders",
+    "over 12 sixteens of a channel's senders",
     "over 256 senders on a channel",
     "a live pair with a continuation that weighs over 1,000,000",
 ];
@@ -28,14 +31,14 @@ const ENDS: [&str; 6] = [
 ];
 /// Who together would break a rule in a held table. Those of a channel and an arity are kept apart by balances alone.
 const TOGETHER: [&str; 3] =
-    ["the senders of an arity", "the senders of a channel and an arity", "eight senders of a channel"];
+    ["the senders of an arity", "the senders of a channel and an arity", "sixteen senders of a channel"];
 /// What alone ends the life of a pair that would break a rule, in a held table.
 const ENDED: [&str; 4] = ["balances", "one balance, by one unit", "an arity one apart", "rows"];
 /// Said of the place of a broken rule.
 const PLACES: [&str; 12] = [
     "not at the first receiver",
     "at neither the first nor the last sender of its channel",
-    "after eight senders of its channel",
+    "after sixteen senders of its channel",
     "at the 256th or 257th sender of its channel",
     "not at the first argument or balance",
     "such a receiver, sender and argument or balance",
@@ -133,12 +136,12 @@ impl<'a> Found<'a> {
 
     fn count_sizes(&self, tally: &mut Tally) {
         let channels = self.channels();
-        let eights: usize = channels.iter().map(|senders| senders.len().div_ceil(8)).sum();
+        let sets: usize = channels.iter().map(|senders| senders.len().div_ceil(SET)).sum();
         let longest = channels.iter().map(Vec::len).max().unwrap_or(0);
         let left = |(p, q): &Pair| [*p, *q].map(|x| self.view.node(x).left);
         let heavy = |child: &usize| self.view.loads.iter().any(|loads| loads[*child] > 1_000_000);
         let flooded = self.live.iter().any(|pair| left(pair).iter().any(heavy));
-        let said = [channels.len() > 32, eights > 32, longest > 256, flooded];
+        let said = [channels.len() > SETS, sets > SETS, longest > 256, flooded];
         SIZES.into_iter().zip(said).for_each(|(what, said)| tally.count(what.into(), said));
     }
 
@@ -195,7 +198,7 @@ impl<'a> Found<'a> {
                 |senders: &[usize]| met.iter().any(|q| senders.contains(q)) && self.fails_against(rule, p, senders);
             said[0] |= fails(&alike(&view.senders));
             said[1] |= channels.iter().any(|senders| fails(&alike(senders)));
-            said[2] |= channels.iter().any(|senders| senders.chunks(8).any(fails));
+            said[2] |= channels.iter().any(|senders| senders.chunks(SET).any(fails));
         }
         said
     }
@@ -257,7 +260,7 @@ impl<'a> Found<'a> {
         [
             late_receiver,
             inner_sender,
-            at >= 8,
+            at >= SET,
             at == 255 || at == 256,
             late_figure,
             late_receiver && inner_sender && late_figure,

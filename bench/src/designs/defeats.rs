@@ -1,7 +1,9 @@
 //! Designs in which every receiver, but one that a stop follows, has senders that would break a rule with it if the
-//! pair were live: what a set of senders needs or sends together decides nothing. All bounds are 3.
+//! pair were live: what a set of senders needs or sends together decides nothing. In `defeat`, `defeat3` and
+//! `defeat_sparse`, which are those of the trial, all bounds are 2 and such a sender is above the bound alone; in the
+//! others all bounds are 3 and it is within the bound alone.
 
-use super::{files, of_eight, over_channels, own_rows, receivers_of_eight, two_chains, Files, ALONE};
+use super::{files, of_eight, ones, over_channels, own_rows, receivers_of_eight, two_chains, Files, ALONE};
 use crate::files::{Agent, Balance, Record, IN, OUT};
 use std::iter::repeat_n;
 
@@ -46,13 +48,48 @@ fn heavy(idle: usize, channels: impl IntoIterator<Item = usize>) -> Vec<Weighed>
     agents
 }
 
-/// `pairs` with two heavy senders at the end.
+/// Weight 1 for every agent but the last ones, bound 2.
+fn last_weigh(records: &[Record], rows: &[[u64; 4]], last: &[u16], balances: usize) -> Files {
+    let mut balance = ones(records, 2);
+    let agents = records.len() - 1;
+    balance.weights[agents - last.len()..agents].copy_from_slice(last);
+    files(records, rows, &vec![balance; balances], ALONE)
+}
+
+/// Two chains with two senders on the first channel at the end, behind a receiver on the last one, which no one sends
+/// to. What the first of the two needs is more than any receiver gives.
+fn above_bounds(channels: usize, receivers: usize, senders: usize, balances: usize) -> Files {
+    let used = channels - 1;
+    let mut after = over_channels(OUT, senders, used);
+    after.extend([(IN, used, vec![]), (OUT, 0, vec![]), (OUT, 0, vec![])]);
+    let records = two_chains(channels, &over_channels(IN, receivers, used), &after);
+    last_weigh(&records, &own_rows(channels), &[3, 5], balances)
+}
+
+/// `pairs` with such senders.
 pub fn defeat(nodes: usize, balances: usize) -> Files {
+    let receivers = (nodes - 8) / 2;
+    above_bounds(2, receivers, nodes - 8 - receivers, balances)
+}
+
+/// `sparse` with such senders.
+pub fn defeat_sparse(nodes: usize, channels: usize, balances: usize) -> Files {
+    let room = nodes - 6 - channels;
+    above_bounds(channels, room / 2, room - room / 2, balances)
+}
+
+/// `arguments`, but the last sender weighs 3 and sends a channel that no parameter holds.
+pub fn defeat3(nodes: usize, names: usize, balances: usize) -> Files {
+    last_weigh(&with_a_strange_name(nodes, names), &all_but_one(names), &[3], balances)
+}
+
+/// `pairs` with two heavy senders at the end.
+pub fn within(nodes: usize, balances: usize) -> Files {
     heavy_after(nodes / 2 - 5, nodes, balances)
 }
 
 /// `pairs` with two heavy senders after every eighth sender.
-pub fn defeat_spread(nodes: usize, balances: usize) -> Files {
+pub fn within_spread(nodes: usize, balances: usize) -> Files {
     heavy_after(8, nodes, balances)
 }
 
@@ -66,7 +103,7 @@ fn heavy_after(every: usize, nodes: usize, balances: usize) -> Files {
 }
 
 /// `sparse` with a heavy sender on every channel at the end; the last channel is the idle one.
-pub fn defeat_sparse(nodes: usize, channels: usize, balances: usize) -> Files {
+pub fn within_sparse(nodes: usize, channels: usize, balances: usize) -> Files {
     let idle = channels - 1;
     let heavy = heavy(idle, (0..idle).chain([0]));
     let room = nodes - 3 - channels - heavy.len();
@@ -76,15 +113,24 @@ pub fn defeat_sparse(nodes: usize, channels: usize, balances: usize) -> Files {
     weighed_chains(channels, receivers, senders, balances)
 }
 
+/// `arguments`, with a last sender of channel 7.
+fn with_a_strange_name(nodes: usize, names: usize) -> Vec<Record> {
+    of_eight(nodes, names, &[(IN, 0, vec![]), (OUT, 0, vec![7; 8])])
+}
+
+/// The parameters hold all channels but channel 7.
+fn all_but_one(names: usize) -> Vec<[u64; 4]> {
+    (0..names).map(|v| [if v < 8 { 255 } else { 127 }, 0, 0, 0]).collect()
+}
+
 /// `arguments`, but the last sender is heavy and sends a channel that no parameter holds.
-pub fn defeat_rows(nodes: usize, names: usize, balances: usize) -> Files {
-    let records = of_eight(nodes, names, &[(IN, 0, vec![]), (OUT, 0, vec![7; 8])]);
+pub fn within_rows(nodes: usize, names: usize, balances: usize) -> Files {
+    let records = with_a_strange_name(nodes, names);
     let receivers = receivers_of_eight(names);
     let mut weights = vec![SENDER; nodes - 9];
     weights[..receivers].fill(RECEIVER);
     weights[nodes - 10] = HEAVY[0];
-    let rows: Vec<[u64; 4]> = (0..names).map(|v| [if v < 8 { 255 } else { 127 }, 0, 0, 0]).collect();
-    weighed(&records, &rows, &weights, balances)
+    weighed(&records, &all_but_one(names), &weights, balances)
 }
 
 /// `pairs`, but weights 1 and 2 take turns. Every second pair weighs 4 in half of the balances, and just these pairs
@@ -138,13 +184,18 @@ mod tests {
         pairs
     }
 
-    /// Of any `near` senders that a receiver may meet, one would break a rule and is within the bound alone.
+    /// Of any `near` senders that a receiver may meet, one would break a rule.
     fn defeats(files: &Files, near: usize) {
         let pairs = pairs(files);
         for of_one in pairs.chunk_by(|one, other| one.p == other.p) {
             assert!(of_one.windows(near.min(of_one.len())).all(|some| some.iter().any(|pair| pair.breaks)));
         }
         assert!(pairs.iter().any(|pair| pair.live) && pairs.iter().all(|pair| !pair.live || !pair.breaks));
+    }
+
+    /// And each is within the bound alone.
+    fn defeats_within(files: &Files, near: usize) {
+        defeats(files, near);
         let table = TableFile::read(&files.table);
         assert!(table.balances.iter().all(|balance| balance.weights.iter().all(|w| u32::from(*w) <= balance.bound)));
     }
@@ -152,10 +203,12 @@ mod tests {
     #[test]
     fn sets_of_senders_decide_nothing() {
         defeats(&defeat(1024, 24), usize::MAX);
-        defeats(&defeat_spread(1024, 24), 10);
-        defeats(&defeat_sparse(1024, 128, 24), usize::MAX);
-        defeats(&defeat_rows(1024, 256, 24), usize::MAX);
-        defeats(&ended(1024, 24), 2);
+        defeats(&defeat3(1024, 256, 24), usize::MAX);
+        defeats_within(&within(1024, 24), usize::MAX);
+        defeats_within(&within_spread(1024, 24), 10);
+        defeats_within(&within_sparse(1024, 128, 24), usize::MAX);
+        defeats_within(&within_rows(1024, 256, 24), usize::MAX);
+        defeats_within(&ended(1024, 24), 2);
     }
 
     #[test]

@@ -3,7 +3,7 @@
 ghost use mathlib.Core.Path.{_≡_};
 ghost use mathlib.Core.Bool.{_&&_, _||_};
 ghost use Prim.Native.Nat.{ℕ, _+_, _<_, _≤_};
-ghost use lib.ListN.{length, getD};
+ghost use lib.ListN.{length, getD, replicate};
 ghost use lib.Dec.{ltb, eqb};
 ghost use Rattle.laws.specs.Search.{first};
 ghost use Rattle.laws.specs.Lists.{times, one};
@@ -36,19 +36,17 @@ fn count_children(table: &mut [u16], r: Record)
     add_if(table, records::branches(r), r.right);
 }
 
-// How many child fields name each node.
-fn count_fields(file: &[u8], t: Trailer) -> [u16; 1024]
-    requires { ⌜ RecordsFit (now file) t × (t .nodes ≤ 1024) ⌝ }
-    ensures { λ r. ⌜ ((v : ℕ) → v < 1024 → getD r v 0 ≡ fieldsTo (arrayOf (now (file .entry)) t) v) ⌝ }
+// How many child fields name each node, into a table without counts.
+fn count_fields(table: &mut [u16], file: &[u8], t: Trailer)
+    requires { ⌜ RecordsFit (now file) t × (t .nodes ≤ 1024) × (now table ≡ replicate 1024 0) ⌝ }
+    ensures { λ _. ⌜ ((v : ℕ) → v < 1024 → getD (now (table .exit)) v 0 ≡ fieldsTo (arrayOf (now (file .entry)) t) v) ⌝ }
 {
-    let mut table = [0u16; 1024];
     let mut j: usize = 0;
     while j < t.nodes {
         let r = records::node_at(file, t, j);
-        count_children(&mut table, r);
+        count_children(table, r);
         j += 1;
     }
-    table
 }
 
 // Counts the parameters that a record binds.
@@ -74,19 +72,17 @@ fn count_names(table: &mut [u16], r: Record)
     count_params(table, r);
 }
 
-// How many times each name is bound: one mark for each of 256 names.
-fn count_binders(file: &[u8], t: Trailer) -> [u16; 256]
-    requires { ⌜ RecordsFit (now file) t × (t .nodes ≤ 1024) ⌝ }
-    ensures { λ r. ⌜ ((v : ℕ) → v < 256 → getD r v 0 ≡ binders (arrayOf (now (file .entry)) t) v) ⌝ }
+// How many times each name is bound, into marks without counts.
+fn count_binders(marks: &mut [u16], file: &[u8], t: Trailer)
+    requires { ⌜ RecordsFit (now file) t × (t .nodes ≤ 1024) × (now marks ≡ replicate 256 0) ⌝ }
+    ensures { λ _. ⌜ ((v : ℕ) → v < 256 → getD (now (marks .exit)) v 0 ≡ binders (arrayOf (now (file .entry)) t) v) ⌝ }
 {
-    let mut marks = [0u16; 256];
     let mut j: usize = 0;
     while j < t.nodes {
         let r = records::node_at(file, t, j);
-        count_names(&mut marks, r);
+        count_names(marks, r);
         j += 1;
     }
-    marks
 }
 
 // A refusal at the first entry, from entry `from` on, that is not 1.
@@ -109,16 +105,18 @@ pub fn bad_parent(file: &[u8], t: Trailer) -> Check
     requires { ⌜ RecordsFit (now file) t × (t .nodes ≤ 1024) ⌝ }
     ensures { λ r. ⌜ foundOf r ≡ refusal9 (arrayOf (now (file .entry)) t) ⌝ }
 {
-    let table = count_fields(file, t);
+    let mut table = [0u16; 1024];
+    count_fields(&mut table, file, t);
     first_not_one(9, &table, 1, t.nodes)
 }
 
-// Refusal 11.
+// Refusal 11: one mark is kept for each of 256 names.
 pub fn bad_binding(file: &[u8], t: Trailer) -> Check
     requires { ⌜ RecordsFit (now file) t × (t .nodes ≤ 1024) ⌝ }
     requires { ⌜ t .names ≤ 256 ⌝ }
     ensures { λ r. ⌜ foundOf r ≡ refusal11 (arrayOf (now (file .entry)) t) ⌝ }
 {
-    let marks = count_binders(file, t);
+    let mut marks = [0u16; 256];
+    count_binders(&mut marks, file, t);
     first_not_one(11, &marks, 0, t.names)
 }

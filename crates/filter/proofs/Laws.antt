@@ -3,20 +3,18 @@ use Prim.Native.Nat.{ℕ, _+_, _≤_, _<_}
 use native.Mathlib.Omega.{arith}
 use mathlib.Core.Path.{_≡_, refl, sym, ap, _∙_}
 use mathlib.Core.Logic.{inl, inr}
-use mathlib.Core.Bool.{Bool, true, false, true≢false}
+use mathlib.Core.Bool.{true, false, true≢false}
 use mathlib.Core.List.{List}
 use lib.Dec.{eqb}
-use lib.ListN.{length, set, replicate, length-replicate, getD-replicate}
-use lib.Seq.{getD-set-same, getD-set-other}
-use borrow.Author.Tests.{eqb-true, eqb-false, leb-true, le-leb}
+use lib.ListN.{replicate, length-replicate}
+use borrow.Author.Tests.{eqb-true, eqb-false, ltb-false, le-leb, not-true}
 use Rattle.laws.specs.Search.{clear}
 use Rattle.laws.proofs.Search.{decided, and-join, every-true, true-every}
 use Rattle.laws.proofs.Lists.{getD-zeros}
 use Rattle.marks.specs.Marks.{marked}
 use Rattle.marks.proofs.Laws.{inside-trans, share-inside}
-use Rattle.model.specs.Tree.{Array, isAgent}
+use Rattle.model.specs.Tree.{isAgent}
 use Rattle.model.specs.Memory.{isOut}
-use Rattle.model.specs.Rules.{Table}
 use Rattle.records.specs.declared.Record.{Record}
 use Rattle.records.specs.Record.{nodeOf}
 use Rattle.records.specs.Kinds.{isReceiver}
@@ -24,12 +22,11 @@ use Rattle.records.proofs.Laws.{node-read}
 use Rattle.records.proofs.KindLaws.{sender-is}
 use Rattle.loads.specs.Loads.{entryIndex, loadIn}
 use Rattle.pairs.specs.declared.Side.{Side}
-use Rattle.pairs.specs.Pairs.{Setting, Given, Held, arrayIn, tableIn, pairsAt, Screened, figuresOf, allHold, breaksPair, takenOf}
+use Rattle.pairs.specs.Pairs.{Setting, Given, Held, arrayIn, tableIn, pairsAt, figuresOf, allHold, breaksPair, needOf, takenOf}
 use Rattle.pairs.proofs.Laws.{alive, live-near, arities, live-shares}
 use Rattle.pairs.proofs.Search.{sound-row}
-use Rattle.senders.specs.Sets.{setOf, arityMark, needOf, Family, family, Room, Covers, Collected, Linked}
-use Rattle.senders.proofs.Laws.{set-below}
-use Rattle.filter.specs.Filter.{mayCome, figuresPass, SetSound, Sound, Kept}
+use Rattle.senders.specs.Sets.{arityMark, Family, family, Room, Covers, Collected, Linked, Gathered}
+use Rattle.filter.specs.Filter.{mayCome, figuresPass, SetSound, Sound}
 
 -- a pair that is not live, or at which the rule holds, breaks nothing
 unbroken : (rule : ℕ) (S : Setting) (p q : Side) → (alive S p q ≡ true → allHold rule (S .n) (S .rows) (S .loads) p q ≡ true) → breaksPair rule S p q ≡ false
@@ -55,10 +52,10 @@ module _ (rule : ℕ) {S : Setting} (given : Given S) {p : Side} (hp : Held S p)
         | inl three ↦
             rw three (true-every _ _ (λ m h.
             inside-trans _ _ _ _ _ _ (covers .sent three m (rw (← arities given hp rp hq (live-near S p q l)) h)) (every-true _ _ (rw three at e) m h)))
-        | inr four ↦ rw four (true-every _ _ (λ k h. le-leb _ _ (met k h (covers .needs four k h) (leb-true _ _ (every-true _ _ (rw four at e) k h)))))
+        | inr four ↦ rw four (true-every _ _ (λ k h. le-leb _ _ (met k h (covers .needs four k h) (ltb-false _ _ (not-true _ (every-true _ _ (rw four at e) k h))))))
       ])
     where
-      met : (k : ℕ) → k < S .n → needOf (S .loads) q k ≤ loadIn (F .needs) g k
+      met : (k : ℕ) → k < S .n → needOf (S .loads) (q .number) (q .node .left) k ≤ loadIn (F .needs) g k
           → loadIn (S .loads) (p .node .left) k + loadIn (F .needs) g k ≤ 65536 + takenOf (p .node) (loadIn (S .loads) (p .number) k)
           → loadIn (S .loads) (p .node .left) k + loadIn (S .loads) (q .node .left) k
           ≤ loadIn (S .loads) (q .number) k + takenOf (p .node) (loadIn (S .loads) (p .number) k)
@@ -69,15 +66,13 @@ module _ (rule : ℕ) {S : Setting} (given : Given S) {p : Side} (hp : Held S p)
 
 -- ---- set after set
 
-module _ (rule : ℕ) (S : Setting) (F : Family) (links : List ℕ) (deep : Bool) (count : ℕ) (p : Side) where
+module _ (rule : ℕ) (S : Setting) (F : Family) (links : List ℕ) (p : Side) where
   -- the sets below n, whichever sets the lists stand for
   abbrev pub SetsSound : ℕ → Type 0
-  SetsSound n = (sets : List ℕ) → Collected rule S F sets count (S .t .nodes) → (deep ≡ true → Linked (S .f) (S .t) sets count links)
-      → (g : ℕ) → g < n → SetSound rule S sets count p g
+  SetsSound n = (sets : ℕ → ℕ) → Collected rule S F sets (S .t .nodes) → Linked (S .f) (S .t) sets links → (g : ℕ) → g < n → SetSound rule S sets p g
 
   pub sets-more : (n : ℕ) → SetsSound n
-      → ((sets : List ℕ) → Collected rule S F sets count (S .t .nodes) → (deep ≡ true → Linked (S .f) (S .t) sets count links) → SetSound rule S sets count p n)
-      → SetsSound (n + 1)
+      → ((sets : ℕ → ℕ) → Collected rule S F sets (S .t .nodes) → Linked (S .f) (S .t) sets links → SetSound rule S sets p n) → SetsSound (n + 1)
   sets-more n before here sets all linked g h =
       elim (decided (eqb g n)) [
         | inl e ↦ rw (eqb-true g n e) (here sets all linked)
@@ -85,9 +80,8 @@ module _ (rule : ℕ) (S : Setting) (F : Family) (links : List ℕ) (deep : Bool
       ]
 
   -- each sender is in one of the sets
-  pub sets-done : Kept rule S F links deep count → SetsSound count → Sound rule S p
-  sets-done k all q hq sends =
-      all (k .sets) (k .collected) (k .linked) (setOf (k .sets) count (q .number)) (set-below (k .sets) count (q .number) (k .some)) q hq sends refl
+  pub sets-done : Gathered rule S F links → SetsSound 12 → Sound rule S p
+  sets-done k all q hq sends = all (k .sets) (k .collected) (k .linked) (k .sets (q .number)) (k .few (q .number)) q hq sends refl
 
 -- ---- a node
 
@@ -101,26 +95,11 @@ pub sound-node : (rule : ℕ) {S : Setting} {p : Side} → Given S → Held S p 
 sound-node rule {S} {p} g hp rp sound =
     sound-row rule g hp rp (λ q hq. elim (decided (isOut (nodeOf (q .node)))) [ inl e ↦ sound q hq e | inr e ↦ rw e ])
 
--- a list of suspects with another entry at i
-pub screened-set : (rule : ℕ) (a : Array) (t : Table) (suspects : List ℕ) (i x : ℕ) → i < length suspects → Screened rule a t suspects
-    → (x ≡ 0 → pairsAt rule a t i ≡ clear) → Screened rule a t (set suspects i x)
-screened-set rule a t suspects i x fits before here j h e =
-    elim (decided (eqb j i)) [
-      | inl same ↦
-          let k = eqb-true j i same in
-          rw k (here (sym (getD-set-same suspects i x 0 fits) ∙ rw k at e))
-      | inr other ↦ before j h (sym (getD-set-other suspects i j x 0 (eqb-false j i other)) ∙ e)
-    ]
-
 -- sets without a sender
-pub empty-room : Room (family (replicate 384 0) (replicate 576 0) (replicate 4 0))
+pub empty-room : Room (family (replicate 288 0) (replicate 432 0) (replicate 4 0))
 empty-room = record {
-  needs = length-replicate {A = ℕ} 384 0;
-  unions = length-replicate {A = ℕ} 576 0;
+  needs = length-replicate {A = ℕ} 288 0;
+  unions = length-replicate {A = ℕ} 432 0;
   arities = length-replicate {A = ℕ} 4 0;
-  half = λ g k. rw (getD-zeros 384 (entryIndex g k)) (omega arith);
+  half = λ g k. rw (getD-zeros 288 (entryIndex g k)) (omega arith);
 }
-
--- at first every node is a suspect
-pub all-suspects : (rule : ℕ) (a : Array) (t : Table) → a .size ≤ 1024 → Screened rule a t (replicate 1024 1)
-all-suspects rule a t few i h e = absurd (omega (arith, sym (getD-replicate 1024 i 1 0 (omega arith)) ∙ e))

@@ -19,26 +19,26 @@ use Rattle.senders.specs.Sets.{Member, Linked}
 use Rattle.filter.specs.Filter.{SetSound}
 
 -- the next sender is of set g, and those of the set from there on break nothing
-pub record Passed (rule : ℕ) (S : Setting) (p : Side) (g : ℕ) (next : ℕ) (sets : List ℕ) (count : ℕ) : Type 0 where
-  pub of : (j : ℕ) → next ≡ j + 1 → Member (S .f) (S .t) sets count g j
-  pub sound : (j : ℕ) → Member (S .f) (S .t) sets count g j → next ≤ j → breaksPair rule S p (sideAt S j) ≡ false
+pub record Passed (rule : ℕ) (S : Setting) (p : Side) (g : ℕ) (next : ℕ) (sets : ℕ → ℕ) : Type 0 where
+  pub of : (j : ℕ) → next ≡ j + 1 → Member (S .f) (S .t) sets g j
+  pub sound : (j : ℕ) → Member (S .f) (S .t) sets g j → next ≤ j → breaksPair rule S p (sideAt S j) ≡ false
 
 abbrev pub AtMember : ℕ → Setting → Side → ℕ → List ℕ → ℕ → ℕ → Type 0
 AtMember rule S p g links end next =
-    (end ≤ S .t .nodes) × ((sets : List ℕ) (count : ℕ) → Linked (S .f) (S .t) sets count links → Passed rule S p g next sets count)
+    (end ≤ S .t .nodes) × ((sets : ℕ → ℕ) → Linked (S .f) (S .t) sets links → Passed rule S p g next sets)
 
 module _ (rule : ℕ) (S : Setting) (p : Side) (g : ℕ) (links : List ℕ) where
   pub members-begun : AtMember rule S p g links (S .t .nodes) (getD links (1024 + g) 0)
-  members-begun = (omega arith, λ sets count l. record { of = l .lastOf g; sound = λ j m h. absurd (omega (arith, l .last g j m, h)) })
+  members-begun = (omega arith, λ sets l. record { of = l .lastOf g; sound = λ j m h. absurd (omega (arith, l .last g j m, h)) })
 
   -- one sender more
   pub members-more : (end next j : ℕ) → next ≡ j + 1 → AtMember rule S p g links end next → j ≤ S .t .nodes → (r : Record) → r ≡ recordOf (S .f) (S .t) j
       → breaksPair rule S p record { number = j; node = r } ≡ false → AtMember rule S p g links j (getD links j 0)
-  members-more end next j up a fits r is e = (fits, λ sets count l. one sets count l (rw up at (a .1 sets count l)))
+  members-more end next j up a fits r is e = (fits, λ sets l. one sets l (rw up at (a .1 sets l)))
     where
-      one : (sets : List ℕ) (count : ℕ) → Linked (S .f) (S .t) sets count links → Passed rule S p g (j + 1) sets count
-          → Passed rule S p g (getD links j 0) sets count
-      one sets count l h =
+      one : (sets : ℕ → ℕ) → Linked (S .f) (S .t) sets links → Passed rule S p g (j + 1) sets
+          → Passed rule S p g (getD links j 0) sets
+      one sets l h =
           let here = h .of j refl in
           record {
             of = λ i q. l .beforeOf g i j here q .0;
@@ -54,9 +54,9 @@ module _ (rule : ℕ) (S : Setting) (p : Side) (g : ℕ) (links : List ℕ) wher
           }
 
   -- no sender is left
-  pub members-done : (end : ℕ) → AtMember rule S p g links end 0 → (sets : List ℕ) (count : ℕ) → Linked (S .f) (S .t) sets count links
-      → SetSound rule S sets count p g
-  members-done end a sets count l q hq sends of =
-      let h = a .1 sets count l in
+  pub members-done : (end : ℕ) → AtMember rule S p g links end 0 → (sets : ℕ → ℕ) → Linked (S .f) (S .t) sets links
+      → SetSound rule S sets p g
+  members-done end a sets l q hq sends of =
+      let h = a .1 sets l in
       ap (λ r. breaksPair rule S p record { number = q .number; node = r }) (hq .is)
       ∙ h .sound (q .number) (hq .below, ap (λ r. isOut (nodeOf r)) (sym (hq .is)) ∙ sends, of) (omega arith)

@@ -1,26 +1,25 @@
-// Which receivers may be in a live pair that breaks rule 3 or 4: sets of senders are asked before single senders.
-// Promises that nothing is found at a receiver that is no suspect: its contract goes one way, and the search over pairs says the rest. Depends on
-// senders (the sets), pairs (a pair alone), loads, arrays, records, marks, wire, model and laws. The lists of the sets take 8,256 bytes of stack.
+// Which receiver is the first that may be in a live pair that breaks rule 3 or 4: sets of senders are asked before single senders.
+// Promises that nothing is found below it: its contract goes one way, and the search over pairs says the rest. Depends on senders (the sets), pairs
+// (a pair alone), loads, arrays, records, marks, wire, model and laws. The lists of the sets take 6,712 bytes of stack.
 ghost use mathlib.Core.Path.{_≡_};
 ghost use mathlib.Core.Bool.{true};
 ghost use Prim.Native.Nat.{ℕ, _<_, _≤_};
-ghost use mathlib.Core.List.{List};
-ghost use lib.ListN.{length, replicate};
+ghost use lib.ListN.{length};
 ghost use Rattle.laws.specs.Search.{clear, every};
 ghost use Rattle.marks.specs.Marks.{HasRow};
-ghost use Rattle.records.specs.Record.{RecordsFit, nodeOf, arrayOf};
+ghost use Rattle.records.specs.Record.{nodeOf, arrayOf};
 ghost use Rattle.records.specs.Kinds.{isReceiver};
 ghost use Rattle.arrays.specs.Agents.{Reads};
 ghost use Rattle.pairs.specs.Pairs.{listTable, setting, Given, pairsAt, Screened};
-ghost use Rattle.senders.specs.Sets.{family, Room, Collected, Linked};
-ghost use Rattle.filter.specs.Filter.{mayCome, argInside, needMet, figuresPass, ArgRows, NeedRows, SetSound, Sound, Kept};
+ghost use Rattle.senders.specs.Sets.{family, Room, Collected, Linked, Gathered};
+ghost use Rattle.filter.specs.Filter.{mayCome, argInside, needMet, figuresPass, ArgRows, NeedRows, SetSound, Sound};
 use pairs::Side;
 use records::Record;
 use records::Trailer;
 
 // A sender of set g may reach receiver p.
 fn may_come(unions: &[u64], arities: &[u64], rows: &[u64], g: usize, p: Side) -> bool
-    requires { ⌜ (g < 16) × (p .node .arity ≤ 8) × (length (now arities) ≡ 4) × HasRow (now unions) g × HasRow (now rows) (p .node .name) ⌝ }
+    requires { ⌜ (g < 12) × (p .node .arity ≤ 8) × (length (now arities) ≡ 4) × HasRow (now unions) g × HasRow (now rows) (p .node .name) ⌝ }
     ensures { λ b. ⌜ b ≡ mayCome (now (unions .entry)) (now (arities .entry)) (now (rows .entry)) g p ⌝ }
 {
     if !marks::is_marked(arities, 0, 16 * g + p.node.arity) {
@@ -31,7 +30,7 @@ fn may_come(unions: &[u64], arities: &[u64], rows: &[u64], g: usize, p: Side) ->
 
 // Rule 3 beside all that set g sends.
 fn args_inside(unions: &[u64], rows: &[u64], g: usize, r: Record) -> bool
-    requires { ⌜ (g < 16) × ArgRows (now unions) (now rows) g r ⌝ }
+    requires { ⌜ (g < 12) × ArgRows (now unions) (now rows) g r ⌝ }
     ensures { λ b. ⌜ b ≡ every (r .arity) (argInside (now (unions .entry)) (now (rows .entry)) g (r .args)) ⌝ }
 {
     let args = r.args;
@@ -40,7 +39,7 @@ fn args_inside(unions: &[u64], rows: &[u64], g: usize, r: Record) -> bool
     let mut m: usize = 0;
     while m < arity {
         inside = inside
-            & marks::contained(unions, 16 + (8 * g + m), rows, wire::byte_index(args[m]));
+            & marks::contained(unions, 12 + (8 * g + m), rows, wire::byte_index(args[m]));
         m += 1;
     }
     inside
@@ -62,8 +61,9 @@ fn needs_met(
     let mut met = true;
     let mut k: usize = 0;
     while k < balances {
-        let left = loads::load_at(loads, l, k) + loads::load_at(needs, g, k);
-        met = met & (left <= 65536 + pairs::gone(stays, loads::load_at(loads, i, k)));
+        let given = 65536 + pairs::gone(stays, loads::load_at(loads, i, k));
+        let needed = loads::load_at(loads, l, k) + loads::load_at(needs, g, k);
+        met = met & !loads::less(given, needed);
         k += 1;
     }
     met
@@ -80,7 +80,7 @@ fn figures_pass(
     g: usize,
     p: Side,
 ) -> bool
-    requires { ⌜ (g < 16) × ArgRows (now unions) (now rows) g (p .node) × NeedRows balances (now needs) (now loads) g (p .number) (p .node .left) ⌝ }
+    requires { ⌜ (g < 12) × ArgRows (now unions) (now rows) g (p .node) × NeedRows balances (now needs) (now loads) g (p .number) (p .node .left) ⌝ }
     ensures { λ b. ⌜ b ≡ figuresPass rule balances (now (needs .entry)) (now (unions .entry)) (now (rows .entry)) (now (loads .entry)) g p ⌝ }
 {
     if rule == 3 {
@@ -110,11 +110,23 @@ fn members_pass(
     g: usize,
     p: Side,
 ) -> bool
-    requires { ⌜ Given (setting (now file) t balances (now rows) (now loads) (now bounds)) × (length (now links) ≡ 1040) × (g < 16) ⌝ }
+    requires { ⌜ Given (setting (now file) t balances (now rows) (now loads) (now bounds)) × (length (now links) ≡ 1036) × (g < 12) ⌝ }
     requires { ⌜ Reads (now file) t (p .number) (p .node) × (isReceiver (nodeOf (p .node)) ≡ true) ⌝ }
-    ensures { λ b. ⌜ (b ≡ true → (sets : List ℕ) (count : ℕ) → Linked (now (file .entry)) t sets count (now (links .entry))
-        → SetSound rule (setting (now (file .entry)) t balances (now (rows .entry)) (now (loads .entry)) (now (bounds .entry))) sets count p g) ⌝ }
+    ensures { λ b. ⌜ (b ≡ true → (sets : ℕ → ℕ) → Linked (now (file .entry)) t sets (now (links .entry))
+        → SetSound rule (setting (now (file .entry)) t balances (now (rows .entry)) (now (loads .entry)) (now (bounds .entry))) sets p g) ⌝ }
 {
+    let mut gives = [0u32; 24];
+    let mut rooms = [0u32; 24];
+    pairs::differences(
+        &mut gives,
+        &mut rooms,
+        balances,
+        loads,
+        bounds,
+        records::is_resource(p.node),
+        p.number,
+        p.node.left,
+    );
     let mut end = t.nodes;
     let mut next = wire::number_index(links[1024 + g]);
     while 0 < next {
@@ -126,7 +138,7 @@ fn members_pass(
             number: j,
             node: records::node_at(file, t, j),
         };
-        if pairs::breaks(rule, balances, rows, loads, bounds, p, q) {
+        if pairs::breaks(rule, balances, rows, loads, &gives, &rooms, p, q) {
             return false;
         }
         end = j;
@@ -153,13 +165,13 @@ fn set_passes(
     p: Side,
 ) -> bool
     requires { ⌜ Given (setting (now file) t balances (now rows) (now loads) (now bounds)) × Room (family (now needs) (now unions) (now arities))
-        × (length (now links) ≡ 1040) × (g < 16) ⌝ }
+        × (length (now links) ≡ 1036) × (g < 12) ⌝ }
     requires { ⌜ Reads (now file) t (p .number) (p .node) × (isReceiver (nodeOf (p .node)) ≡ true) ⌝ }
-    ensures { λ b. ⌜ (b ≡ true → (sets : List ℕ) (count : ℕ)
+    ensures { λ b. ⌜ (b ≡ true → (sets : ℕ → ℕ)
         → Collected rule (setting (now (file .entry)) t balances (now (rows .entry)) (now (loads .entry)) (now (bounds .entry)))
-        (family (now (needs .entry)) (now (unions .entry)) (now (arities .entry))) sets count (t .nodes)
-        → (deep ≡ true → Linked (now (file .entry)) t sets count (now (links .entry)))
-        → SetSound rule (setting (now (file .entry)) t balances (now (rows .entry)) (now (loads .entry)) (now (bounds .entry))) sets count p g) ⌝ }
+        (family (now (needs .entry)) (now (unions .entry)) (now (arities .entry))) sets (t .nodes)
+        → Linked (now (file .entry)) t sets (now (links .entry))
+        → SetSound rule (setting (now (file .entry)) t balances (now (rows .entry)) (now (loads .entry)) (now (bounds .entry))) sets p g) ⌝ }
 {
     if !may_come(unions, arities, rows, g, p) {
         return true;
@@ -187,17 +199,15 @@ fn passes(
     arities: &[u64],
     links: &[u16],
     deep: bool,
-    count: usize,
     p: Side,
 ) -> bool
-    requires { ⌜ Given (setting (now file) t balances (now rows) (now loads) (now bounds)) × (length (now links) ≡ 1040) × (count ≤ 16) ⌝ }
-    requires { ⌜ Kept rule (setting (now file) t balances (now rows) (now loads) (now bounds)) (family (now needs) (now unions) (now arities))
-        (now links) deep count ⌝ }
+    requires { ⌜ Given (setting (now file) t balances (now rows) (now loads) (now bounds)) ⌝ }
+    requires { ⌜ Gathered rule (setting (now file) t balances (now rows) (now loads) (now bounds)) (family (now needs) (now unions) (now arities)) (now links) ⌝ }
     requires { ⌜ Reads (now file) t (p .number) (p .node) × (isReceiver (nodeOf (p .node)) ≡ true) ⌝ }
     ensures { λ b. ⌜ (b ≡ true → Sound rule (setting (now (file .entry)) t balances (now (rows .entry)) (now (loads .entry)) (now (bounds .entry))) p) ⌝ }
 {
     let mut g: usize = 0;
-    while g < count {
+    while g < 12 {
         if !set_passes(
             rule,
             file,
@@ -221,9 +231,8 @@ fn passes(
     true
 }
 
-// What is noted of node i, where `before` was noted: 0 where nothing is found there.
-fn suspicion(
-    before: u8,
+// Nothing is found at node i: it has no figures, or every set passes.
+fn node_passes(
     rule: u8,
     file: &[u8],
     t: Trailer,
@@ -236,27 +245,21 @@ fn suspicion(
     arities: &[u64],
     links: &[u16],
     deep: bool,
-    count: usize,
     i: usize,
-) -> u8
-    requires { ⌜ Given (setting (now file) t balances (now rows) (now loads) (now bounds)) × (length (now links) ≡ 1040) × (count ≤ 16) ⌝ }
-    requires { ⌜ Kept rule (setting (now file) t balances (now rows) (now loads) (now bounds)) (family (now needs) (now unions) (now arities))
-        (now links) deep count ⌝ }
-    requires { ⌜ (i < t .nodes) × (before ≡ 0 → pairsAt rule (arrayOf (now file) t) (listTable (now rows) (now loads) (now bounds) balances) i ≡ clear) ⌝ }
-    ensures { λ x. ⌜ (x ≡ 0 → pairsAt rule (arrayOf (now (file .entry)) t)
+) -> bool
+    requires { ⌜ Given (setting (now file) t balances (now rows) (now loads) (now bounds)) × (i < t .nodes) ⌝ }
+    requires { ⌜ Gathered rule (setting (now file) t balances (now rows) (now loads) (now bounds)) (family (now needs) (now unions) (now arities)) (now links) ⌝ }
+    ensures { λ b. ⌜ (b ≡ true → pairsAt rule (arrayOf (now (file .entry)) t)
         (listTable (now (rows .entry)) (now (loads .entry)) (now (bounds .entry)) balances) i ≡ clear) ⌝ }
 {
-    if before == 0 {
-        return 0;
-    }
     let p = Side {
         number: i,
         node: records::node_at(file, t, i),
     };
     if pairs::figures(rule, balances, p.node) == 0 {
-        return 0;
+        return true;
     }
-    if passes(
+    passes(
         rule,
         file,
         t,
@@ -269,17 +272,13 @@ fn suspicion(
         arities,
         links,
         deep,
-        count,
         p,
-    ) {
-        return 0;
-    }
-    1
+    )
 }
 
-// Receivers that every set passes are no suspects any more.
+// The first node from `from` on that does not pass.
 fn sift(
-    suspects: &mut [u8],
+    from: usize,
     rule: u8,
     file: &[u8],
     t: Trailer,
@@ -292,21 +291,17 @@ fn sift(
     arities: &[u64],
     links: &[u16],
     deep: bool,
-    count: usize,
-)
-    requires { ⌜ Given (setting (now file) t balances (now rows) (now loads) (now bounds)) × (length (now links) ≡ 1040) × (count ≤ 16) ⌝ }
-    requires { ⌜ Kept rule (setting (now file) t balances (now rows) (now loads) (now bounds)) (family (now needs) (now unions) (now arities))
-        (now links) deep count ⌝ }
-    requires { ⌜ (length (now suspects) ≡ 1024)
-        × Screened rule (arrayOf (now file) t) (listTable (now rows) (now loads) (now bounds) balances) (now suspects) ⌝ }
-    ensures { λ _. ⌜ Screened rule (arrayOf (now (file .entry)) t)
-        (listTable (now (rows .entry)) (now (loads .entry)) (now (bounds .entry)) balances) (now (suspects .exit)) ⌝ }
+) -> usize
+    requires { ⌜ Given (setting (now file) t balances (now rows) (now loads) (now bounds)) × (from ≤ t .nodes)
+        × Screened rule (arrayOf (now file) t) (listTable (now rows) (now loads) (now bounds) balances) from ⌝ }
+    requires { ⌜ Gathered rule (setting (now file) t balances (now rows) (now loads) (now bounds)) (family (now needs) (now unions) (now arities)) (now links) ⌝ }
+    ensures { λ n. ⌜ (n ≤ t .nodes) × Screened rule (arrayOf (now (file .entry)) t)
+        (listTable (now (rows .entry)) (now (loads .entry)) (now (bounds .entry)) balances) n ⌝ }
 {
     let nodes = t.nodes;
-    let mut i: usize = 0;
+    let mut i = from;
     while i < nodes {
-        suspects[i] = suspicion(
-            suspects[i],
+        if !node_passes(
             rule,
             file,
             t,
@@ -319,28 +314,18 @@ fn sift(
             arities,
             links,
             deep,
-            count,
             i,
-        );
+        ) {
+            return i;
+        }
         i += 1;
     }
+    i
 }
 
-// Links the senders of each set where they are to be looked at one by one.
-fn link_deep(links: &mut [u16], deep: bool, sets: &[u8], count: usize, file: &[u8], t: Trailer)
-    requires { ⌜ RecordsFit (now file) t × (t .nodes ≤ 1024) × (length (now sets) ≡ 1024) × (0 < count) × (count ≤ 16) ⌝ }
-    requires { ⌜ now links ≡ replicate 1040 0 ⌝ }
-    ensures { λ _. ⌜ (deep ≡ true → Linked (now (file .entry)) t (now (sets .entry)) count (now (links .exit))) ⌝ }
-{
-    if !deep {
-        return;
-    }
-    senders::link(links, sets, count, file, t);
-}
-
-// The suspects that are left when the sets of a list are asked.
+// The first node from `from` on that does not pass when sets of senders are asked, by arity or, where it goes deep, by channel and one by one.
 fn ask(
-    suspects: &mut [u8],
+    from: usize,
     rule: u8,
     file: &[u8],
     t: Trailer,
@@ -348,36 +333,32 @@ fn ask(
     rows: &[u64],
     loads: &[u32],
     bounds: &[u32],
-    sets: &[u8],
-    count: usize,
     deep: bool,
-)
-    requires { ⌜ Given (setting (now file) t balances (now rows) (now loads) (now bounds)) × (length (now sets) ≡ 1024) × (0 < count) × (count ≤ 16) ⌝ }
-    requires { ⌜ (length (now suspects) ≡ 1024)
-        × Screened rule (arrayOf (now file) t) (listTable (now rows) (now loads) (now bounds) balances) (now suspects) ⌝ }
-    ensures { λ _. ⌜ Screened rule (arrayOf (now (file .entry)) t)
-        (listTable (now (rows .entry)) (now (loads .entry)) (now (bounds .entry)) balances) (now (suspects .exit)) ⌝ }
+) -> usize
+    requires { ⌜ Given (setting (now file) t balances (now rows) (now loads) (now bounds)) × (from ≤ t .nodes)
+        × Screened rule (arrayOf (now file) t) (listTable (now rows) (now loads) (now bounds) balances) from ⌝ }
+    ensures { λ n. ⌜ (n ≤ t .nodes) × Screened rule (arrayOf (now (file .entry)) t)
+        (listTable (now (rows .entry)) (now (loads .entry)) (now (bounds .entry)) balances) n ⌝ }
 {
-    let mut needs = [0u32; 384];
-    let mut unions = [0u64; 576];
+    let mut needs = [0u32; 288];
+    let mut unions = [0u64; 432];
     let mut arities = [0u64; 4];
-    let mut links = [0u16; 1040];
-    senders::collect(
+    let mut links = [0u16; 1036];
+    senders::gather(
         rule,
+        deep,
         &mut needs,
         &mut unions,
         &mut arities,
-        sets,
-        count,
+        &mut links,
         file,
         t,
         balances,
         rows,
         loads,
     );
-    link_deep(&mut links, deep, sets, count, file, t);
     sift(
-        suspects,
+        from,
         rule,
         file,
         t,
@@ -390,27 +371,11 @@ fn ask(
         &arities,
         &links,
         deep,
-        count,
-    );
+    )
 }
 
-// Some node is a suspect.
-fn some_left(suspects: &[u8], nodes: usize) -> bool
-    requires { ⌜ nodes ≤ length (now suspects) ⌝ }
-{
-    let mut some = false;
-    let mut i: usize = 0;
-    while i < nodes {
-        some = some | (suspects[i] != 0);
-        i += 1;
-    }
-    some
-}
-
-// The suspects that are left when smaller sets are asked, and their senders one by one.
-fn ask_closely(
-    suspects: &mut [u8],
-    sets: &mut [u8],
+// The first node that may be the receiver of a live pair which breaks the rule: nothing is found below it.
+pub fn first_suspect(
     rule: u8,
     file: &[u8],
     t: Trailer,
@@ -418,72 +383,14 @@ fn ask_closely(
     rows: &[u64],
     loads: &[u32],
     bounds: &[u32],
-)
-    requires { ⌜ Given (setting (now file) t balances (now rows) (now loads) (now bounds)) × (length (now sets) ≡ 1024) ⌝ }
-    requires { ⌜ (length (now suspects) ≡ 1024)
-        × Screened rule (arrayOf (now file) t) (listTable (now rows) (now loads) (now bounds) balances) (now suspects) ⌝ }
-    ensures { λ _. ⌜ Screened rule (arrayOf (now (file .entry)) t)
-        (listTable (now (rows .entry)) (now (loads .entry)) (now (bounds .entry)) balances) (now (suspects .exit)) ⌝ }
-{
-    if !some_left(suspects, t.nodes) {
-        return;
-    }
-    senders::by_channel(sets, file, t);
-    ask(
-        suspects,
-        rule,
-        file,
-        t,
-        balances,
-        rows,
-        loads,
-        bounds,
-        sets,
-        16,
-        true,
-    );
-}
-
-// The nodes that may be receivers of a live pair which breaks the rule: 0 of a node says that nothing is found there.
-pub fn suspects(
-    rule: u8,
-    file: &[u8],
-    t: Trailer,
-    balances: usize,
-    rows: &[u64],
-    loads: &[u32],
-    bounds: &[u32],
-) -> [u8; 1024]
+) -> usize
     requires { ⌜ Given (setting (now file) t balances (now rows) (now loads) (now bounds)) ⌝ }
-    ensures { λ r. ⌜ Screened rule (arrayOf (now (file .entry)) t)
-        (listTable (now (rows .entry)) (now (loads .entry)) (now (bounds .entry)) balances) r ⌝ }
+    ensures { λ n. ⌜ (n ≤ t .nodes) × Screened rule (arrayOf (now (file .entry)) t)
+        (listTable (now (rows .entry)) (now (loads .entry)) (now (bounds .entry)) balances) n ⌝ }
 {
-    let mut list = [1u8; 1024];
-    let mut sets = [0u8; 1024];
-    senders::by_arity(&mut sets, file, t);
-    ask(
-        &mut list,
-        rule,
-        file,
-        t,
-        balances,
-        rows,
-        loads,
-        bounds,
-        &sets,
-        9,
-        false,
-    );
-    ask_closely(
-        &mut list,
-        &mut sets,
-        rule,
-        file,
-        t,
-        balances,
-        rows,
-        loads,
-        bounds,
-    );
-    list
+    let from = ask(0, rule, file, t, balances, rows, loads, bounds, false);
+    if from == t.nodes {
+        return from;
+    }
+    ask(from, rule, file, t, balances, rows, loads, bounds, true)
 }

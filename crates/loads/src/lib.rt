@@ -3,6 +3,7 @@
 ghost use mathlib.Core.Path.{_≡_};
 ghost use mathlib.Core.Bool.{true};
 ghost use Prim.Native.Nat.{ℕ, _+_, _<_};
+ghost use lib.Dec.{ltb};
 ghost use lib.ListN.{length};
 ghost use Rattle.laws.specs.Lists.{has};
 ghost use Rattle.model.specs.Formed.{children, WellFormed};
@@ -27,6 +28,14 @@ pub fn load_at(loads: &[u32], i: usize, k: usize) -> u32
     ensures { λ n. ⌜ (n ≡ loadIn (now (loads .entry)) i k) × (n < 2147483648) ⌝ }
 {
     loads[entry(i, k)]
+}
+
+// a < b. Both are compared as signed numbers, of which a machine compares several at once.
+pub fn less(a: u32, b: u32) -> bool
+    requires { ⌜ (a < 2147483648) × (b < 2147483648) ⌝ }
+    ensures { λ r. ⌜ r ≡ ltb a b ⌝ }
+{
+    (a as i32) < (b as i32)
 }
 
 // The load of a node, whose record is r, in balance k, from its weight and the loads of its children.

@@ -25,7 +25,7 @@ use Rattle.arrays.proofs.Agents.{agent-is, no-agent, small-arity, arity-is, nam
 use Rattle.loads.specs.Loads.{loadIn}
 use Rattle.pairs.specs.declared.Side.{Side}
 use Rattle.pairs.specs.Pairs.{Setting, Given, Held, arrayIn, tableIn, figureHolds, meets, livePair, argumentHolds, balanceHolds}
-use Rattle.pairs.specs.Pairs.{takenOf, holdsAt, NameRow, ArgumentRows, HalfPair, Figures}
+use Rattle.pairs.specs.Pairs.{takenOf, holdsAt, NameRow, ArgumentRows}
 
 -- q may come to p
 abbrev pub near : Setting → Side → Side → Bool
@@ -37,6 +37,10 @@ alive S p q = livePair (S .rows) (S .loads) (S .bounds) (S .n) p q
 -- a live pair meets
 pub live-near : (S : Setting) (p q : Side) → alive S p q ≡ true → near S p q ≡ true
 live-near S p q l = and-split (near S p q) _ l .0
+
+-- what comes to p sends
+pub meet-sends : (S : Setting) (p q : Side) → near S p q ≡ true → isOut (nodeOf (q .node)) ≡ true
+meet-sends S p q e = and-split _ _ (and-split _ _ e .0) .0
 
 -- an in's weight goes, a resource's stays
 taken-is : (r : Record) → isReceiver (nodeOf r) ≡ true → (w : ℕ) → takenOf r w ≡ taken (sortOf r) w
@@ -119,18 +123,10 @@ module _ {S : Setting} (g : Given S) where
       pub arities : p .node .arity ≡ q .node .arity
       arities = eqb-true _ _ (and-split (isOut (nodeOf (q .node))) _ (parts .0) .1)
 
-      pub half-pair : (k : ℕ) → k < S .n → HalfPair (S .loads) p q k
-      half-pair k h =
-          let half : (i : ℕ) → i < S .t .nodes → _ = λ i b. g .weighed .half i b k h in
-          (half _ (hp .below), half _ (left-below (g .read) hp agent-p), half _ (hq .below), half _ (left-below (g .read) hq agent-q))
-
       pub argument-rows : (m : ℕ) → m < p .node .arity → ArgumentRows (S .rows) p q m
       argument-rows m h =
           let e = arities in
           (omega (arith, small-arity (g .read) hp), arg-row hp agent-p m h, arg-row hq agent-q m (omega arith))
-
-      pub figures-there : (rule : ℕ) → Figures rule (S .n) (S .rows) (S .loads) p q
-      figures-there rule = (λ e m h. argument-rows m h, λ e k h. half-pair k h)
 
       argument-is : (m : ℕ) → m < p .node .arity → within T (getD (argsOf (q .node)) m 0) (getD (argsOf (p .node)) m 0) ≡ argumentHolds (S .rows) p q m
       unfolding within inside

@@ -17,7 +17,7 @@ use Rattle.pairs.specs.declared.Side.{Side}
 use Rattle.pairs.specs.declared.Place.{Place}
 use Rattle.pairs.specs.declared.Place.the-variants.{Nowhere, At}
 use Rattle.pairs.specs.Pairs.{Setting, Given, Held, arrayIn, tableIn, placeOf, atPair, pairsAt, pairsOf, placed, figuresOf, holdsAt, allHold}
-use Rattle.pairs.specs.Pairs.{breaksPair}
+use Rattle.pairs.specs.Pairs.{Screened, breaksPair}
 use Rattle.pairs.proofs.Laws.{near, alive, live-near, no-receiver, pair-is, figure-is}
 
 -- ---- the searches at a pair, at a receiver and at a figure
@@ -115,8 +115,9 @@ module _ (rule : ℕ) {S : Setting} {p : Side} (g : Given S) (r : Held S p) wher
       (whole (allHold rule (S .n) (S .rows) (S .loads) p (sideAt S j)) u (sound (sideAt S j) record { below = l; is = refl })) m h))))
 
 module _ {rule : ℕ} {S : Setting} where
-  pub begin : Given S → AtReceiver rule S Nowhere 0
-  begin g = record { given = g; none = refl; within = omega arith; passed = first-zero _ }
+  -- nothing is found below the first receiver
+  pub begin : Given S → {from : ℕ} → from ≤ S .t .nodes → Screened rule (arrayIn S) (tableIn S) from → AtReceiver rule S Nowhere from
+  begin g {from} l below = record { given = g; none = refl; within = l; passed = clear-first from _ below }
 
   -- one receiver more
   pub row-passed : {answer : Place} {i : ℕ} → AtReceiver rule S answer i → i < S .t .nodes → rowAt rule S i ≡ clear → AtReceiver rule S answer (i + 1)

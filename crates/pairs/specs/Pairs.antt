@@ -1,9 +1,9 @@
 -- Rules 3 and 4 as one search over receiver, sender and a last figure, and the same by the checker's own lists.
-use Prim.Native.Nat.{ℕ, suc, _+_, _≤_, _<_}
+use Prim.Native.Nat.{ℕ, suc, _+_, _-_, _≤_, _<_}
 use mathlib.Core.Path.{_≡_}
 use mathlib.Core.Bool.{Bool, true, false, cond, not, _&&_}
 use mathlib.Core.List.{List, [], _∷_}
-use lib.Dec.{eqb, leb}
+use lib.Dec.{eqb, leb, ltb}
 use lib.ListN.{length, getD}
 use Rattle.laws.specs.Search.{clear, hit, test, first, every}
 use Rattle.marks.specs.Marks.{HasRow, marked, share, inside}
@@ -16,7 +16,7 @@ use Rattle.records.specs.Record.{nodeOf, arrayOf}
 use Rattle.records.specs.Kinds.{isReceiver}
 use Rattle.arrays.specs.File.{IsRead}
 use Rattle.arrays.specs.Agents.{Reads}
-use Rattle.loads.specs.Loads.{loadIn, Half}
+use Rattle.loads.specs.Loads.{entryIndex, loadIn, Half}
 use Rattle.pairs.specs.declared.Side.{Side}
 use Rattle.pairs.specs.declared.Place.{Place}
 use Rattle.pairs.specs.declared.Place.the-variants.{Nowhere, At}
@@ -101,9 +101,9 @@ pairsOf rule a t = pairs a t (atPair rule t)
 abbrev pub pairsAt : ℕ → Array → Table → ℕ → Verdict
 pairsAt rule a t i = first (a .size) λ j. onLive t i j (agentAt a i) (agentAt a j) (atPair rule t i j)
 
--- a list with 0 for a node only where nothing is found there
-abbrev pub Screened : ℕ → Array → Table → List ℕ → Type 0
-Screened rule a t suspects = (i : ℕ) → i < a .size → getD suspects i 0 ≡ 0 → pairsAt rule a t i ≡ clear
+-- nothing is found below node `from`
+abbrev pub Screened : ℕ → Array → Table → ℕ → Type 0
+Screened rule a t from = (i : ℕ) → i < from → pairsAt rule a t i ≡ clear
 
 -- what a search over the pairs answers
 abbrev pub placed : ℕ → Place → Verdict
@@ -162,6 +162,55 @@ allHold rule n rows loads p q = cond (eqb rule 3) (every (p .node .arity) (argum
 abbrev pub breaksPair : ℕ → Setting → Side → Side → Bool
 breaksPair rule S p q = livePair (S .rows) (S .loads) (S .bounds) (S .n) p q && not (allHold rule (S .n) (S .rows) (S .loads) p q)
 
+-- ---- the same by differences: those of a receiver are worked out once, before its senders are looked at
+
+-- what sender j with continuation r needs of a receiver in balance k: load of the continuation + 65,536 − weight, a natural number
+abbrev pub needOf : List ℕ → ℕ → ℕ → ℕ → ℕ
+needOf loads j r k = (loadIn loads r k + 65536) - loadIn loads j k
+
+-- what receiver i, which stays or goes, with continuation l, gives: 65,536 + what goes of its weight − load of the continuation, or 0
+abbrev pub giveOf : List ℕ → Bool → ℕ → ℕ → ℕ → ℕ
+giveOf loads stays i l k = (65536 + goneOf stays (loadIn loads i k)) - loadIn loads l k
+
+-- two weights are below 131,071 together, so that a greater bound says no more
+abbrev pub capped : ℕ → ℕ
+capped bound = cond (ltb bound 131071) bound 131071
+
+-- one more than what a sender may weigh beside receiver i, or 0
+abbrev pub roomOf : List ℕ → List ℕ → ℕ → ℕ → ℕ
+roomOf loads bounds i k = (capped (getD bounds k 0) + 1) - loadIn loads i k
+
+-- the lists of both, in n balances
+abbrev pub Differences : ℕ → List ℕ → List ℕ → Bool → ℕ → ℕ → List ℕ → List ℕ → Type 0
+Differences n loads bounds stays i l gives rooms =
+    (k : ℕ) → k < n → (getD gives k 0 ≡ giveOf loads stays i l k) × (getD rooms k 0 ≡ roomOf loads bounds i k)
+
+pub record DifferencesOf (S : Setting) (p : Side) (gives rooms : List ℕ) : Type 0 where
+  pub manyGives : length gives ≡ 24
+  pub manyRooms : length rooms ≡ 24
+  pub are : Differences (S .n) (S .loads) (S .bounds) (isResource (nodeOf (p .node))) (p .number) (p .node .left) gives rooms
+
+-- sender j fits beside the receiver in balance k
+abbrev pub fitsBeside : List ℕ → List ℕ → ℕ → ℕ → Bool
+fitsBeside loads rooms j k = ltb (loadIn loads j k) (getD rooms k 0)
+
+-- the receiver gives as much as is needed
+abbrev pub enough : List ℕ → ℕ → ℕ → Bool
+enough gives k need = not (ltb (getD gives k 0) need)
+
+abbrev pub givesTo : List ℕ → List ℕ → ℕ → ℕ → ℕ → Bool
+givesTo loads gives j r k = enough gives k (needOf loads j r k)
+
+abbrev pub liveBy : List ℕ → List ℕ → List ℕ → ℕ → Side → Side → Bool
+liveBy rows loads rooms n p q = meets rows p q && every n (fitsBeside loads rooms (q .number))
+
+abbrev pub holdsBy : ℕ → List ℕ → List ℕ → List ℕ → Side → Side → ℕ → Bool
+holdsBy rule rows loads gives p q n = cond (eqb rule 3) (argumentHolds rows p q n) (givesTo loads gives (q .number) (q .node .left) n)
+
+abbrev pub allHoldBy : ℕ → ℕ → List ℕ → List ℕ → List ℕ → Side → Side → Bool
+allHoldBy rule n rows loads gives p q =
+    cond (eqb rule 3) (every (p .node .arity) (argumentHolds rows p q)) (every n (givesTo loads gives (q .number) (q .node .left)))
+
 -- ---- what the lists have of sides that were read
 
 -- rows of an agent's channel
@@ -172,14 +221,25 @@ NameRow rows p = isAgent (nodeOf (p .node)) ≡ true → HasRow rows (p .node .n
 abbrev pub ArgumentRows : List ℕ → Side → Side → ℕ → Type 0
 ArgumentRows rows p q n = (n < 8) × HasRow rows (getD (p .node .args) n 0) × HasRow rows (getD (q .node .args) n 0)
 
+-- entry k of a list is there, and may be compared
+abbrev pub Small : List ℕ → ℕ → Type 0
+Small xs k = (k < length xs) × (getD xs k 0 < 2147483648)
+
+-- what sender j with continuation r needs can be worked out: the continuation's load is at most 1,024 weights, its own weight has 16 bits
+abbrev pub NeedThere : List ℕ → ℕ → ℕ → ℕ → Type 0
+NeedThere loads j r k =
+    (entryIndex r k < length loads) × (loadIn loads r k < 134217728) × (entryIndex j k < length loads) × (loadIn loads j k < 65536)
+
 -- what rule 4 compares in balance k
-abbrev pub HalfFour : List ℕ → ℕ → ℕ → ℕ → ℕ → ℕ → Type 0
-HalfFour loads i l j r k = Half loads i k × Half loads l k × Half loads j k × Half loads r k
+abbrev pub Gives : List ℕ → List ℕ → ℕ → ℕ → ℕ → Type 0
+Gives loads gives j r k = Small gives k × NeedThere loads j r k
 
-abbrev pub HalfPair : List ℕ → Side → Side → ℕ → Type 0
-HalfPair loads p q k = HalfFour loads (p .number) (p .node .left) (q .number) (q .node .left) k
+-- what the rule compares: rows of all arguments, or what is given and needed in n balances
+abbrev pub Figures : ℕ → ℕ → List ℕ → List ℕ → List ℕ → Side → Side → Type 0
+Figures rule n rows loads gives p q =
+    (eqb rule 3 ≡ true → (m : ℕ) → m < p .node .arity → ArgumentRows rows p q m)
+    × (eqb rule 3 ≡ false → (k : ℕ) → k < n → Gives loads gives (q .number) (q .node .left) k)
 
--- what the rule compares: rows of all arguments, or loads in n balances
-abbrev pub Figures : ℕ → ℕ → List ℕ → List ℕ → Side → Side → Type 0
-Figures rule n rows loads p q =
-    (eqb rule 3 ≡ true → (m : ℕ) → m < p .node .arity → ArgumentRows rows p q m) × (eqb rule 3 ≡ false → (k : ℕ) → k < n → HalfPair loads p q k)
+-- what liveness compares in n balances
+abbrev pub Rooms : ℕ → List ℕ → List ℕ → ℕ → Type 0
+Rooms n loads rooms j = (n ≤ length rooms) × ((k : ℕ) → k < n → (getD rooms k 0 < 2147483648) × Half loads j k)

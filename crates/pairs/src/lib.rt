@@ -3,15 +3,15 @@
 // marks, loads of all nodes in all balances, bounds. Depends on loads, arrays, records, marks, wire, model and laws.
 ghost use mathlib.Core.Path.{_≡_};
 ghost use mathlib.Core.Bool.{true, false, not, _&&_};
-ghost use Prim.Native.Nat.{ℕ, _<_, _≤_};
+ghost use Prim.Native.Nat.{ℕ, _-_, _<_, _≤_};
 ghost use lib.ListN.{length};
 ghost use lib.Dec.{eqb};
 ghost use Rattle.laws.specs.Search.{every};
 ghost use Rattle.model.specs.Tree.{isAgent};
 ghost use Rattle.records.specs.Record.{nodeOf, arrayOf};
-ghost use Rattle.pairs.specs.Pairs.{listTable, setting, Given, HalfRow, Screened, placed, pairsOf, SmallFigure, figuresOf, goneOf};
-ghost use Rattle.pairs.specs.Pairs.{bearsBoth, meets, livePair, argumentHolds, leavesRoom, holdsAt, allHold};
-ghost use Rattle.pairs.specs.Pairs.{NameRow, ArgumentRows, HalfFour, HalfPair, Figures};
+ghost use Rattle.pairs.specs.Pairs.{listTable, setting, Given, HalfRow, Screened, placed, pairsOf, SmallFigure, figuresOf, goneOf, meets, argumentHolds};
+ghost use Rattle.pairs.specs.Pairs.{needOf, capped, Differences, fitsBeside, givesTo, liveBy, holdsBy, allHoldBy};
+ghost use Rattle.pairs.specs.Pairs.{NameRow, ArgumentRows, NeedThere, Gives, Figures, Rooms};
 use records::Record;
 use records::Trailer;
 
@@ -27,20 +27,6 @@ pub struct Side {
     pub node: Record,
 }
 
-// No balance has the weights of nodes i and j above its bound.
-fn fit_both(balances: usize, loads: &[u32], bounds: &[u32], i: usize, j: usize) -> bool
-    requires { ⌜ (balances ≤ length (now bounds)) × HalfRow (now loads) balances i × HalfRow (now loads) balances j ⌝ }
-    ensures { λ b. ⌜ b ≡ every balances (bearsBoth (now (loads .entry)) (now (bounds .entry)) i j) ⌝ }
-{
-    let mut fits = true;
-    let mut k: usize = 0;
-    while k < balances {
-        fits = fits & (loads::load_at(loads, i, k) + loads::load_at(loads, j, k) <= bounds[k]);
-        k += 1;
-    }
-    fits
-}
-
 // q sends, by p's arity, on a channel that may be p's.
 fn meet(rows: &[u64], p: Side, q: Side) -> bool
     requires { ⌜ (isAgent (nodeOf (p .node)) ≡ true) × NameRow (now rows) p × NameRow (now rows) q ⌝ }
@@ -53,18 +39,6 @@ fn meet(rows: &[u64], p: Side, q: Side) -> bool
         return false;
     }
     marks::shares(rows, p.node.name, rows, q.node.name)
-}
-
-// Receiver p and q are a live pair.
-fn live(balances: usize, rows: &[u64], loads: &[u32], bounds: &[u32], p: Side, q: Side) -> bool
-    requires { ⌜ (balances ≤ length (now bounds)) × HalfRow (now loads) balances (p .number) × HalfRow (now loads) balances (q .number) ⌝ }
-    requires { ⌜ (isAgent (nodeOf (p .node)) ≡ true) × NameRow (now rows) p × NameRow (now rows) q ⌝ }
-    ensures { λ b. ⌜ b ≡ livePair (now (rows .entry)) (now (loads .entry)) (now (bounds .entry)) balances p q ⌝ }
-{
-    if !meet(rows, p, q) {
-        return false;
-    }
-    fit_both(balances, loads, bounds, p.number, q.number)
 }
 
 // How many figures the rule looks at: none where the node is no receiver.
@@ -105,41 +79,101 @@ pub fn gone(stays: bool, weight: u32) -> u32
     weight
 }
 
-// Rule 4 at balance k, for receiver i with continuation l and sender j with continuation r: the loads of both continuations are within what goes.
-fn balance_holds(
-    loads: &[u32],
-    stays: bool,
-    i: usize,
-    l: usize,
-    j: usize,
-    r: usize,
-    k: usize,
-) -> bool
-    requires { ⌜ HalfFour (now loads) i l j r k ⌝ }
-    ensures { λ b. ⌜ b ≡ leavesRoom (now (loads .entry)) stays i l j r k ⌝ }
+// a − b, or 0.
+fn difference(a: u32, b: u32) -> u32
+    ensures { λ n. ⌜ n ≡ a - b ⌝ }
 {
-    let left = loads::load_at(loads, l, k) + loads::load_at(loads, r, k);
-    let sender = loads::load_at(loads, j, k);
-    left <= sender + gone(stays, loads::load_at(loads, i, k))
+    if a < b {
+        return 0;
+    }
+    a - b
 }
 
-// Rule 4 in every balance. The loop has no way out, so that several balances are compared at once.
-fn balances_hold(
+// A bound, or what no two weights reach together.
+fn cap(bound: u32) -> u32
+    ensures { λ n. ⌜ (n ≡ capped bound) × (n ≤ 131071) ⌝ }
+{
+    if bound < 131071 {
+        return bound;
+    }
+    131071
+}
+
+// The differences of receiver i, which stays or goes, with continuation l: what it gives, and one more than what a sender may weigh beside it.
+pub fn differences(
+    gives: &mut [u32],
+    rooms: &mut [u32],
     balances: usize,
     loads: &[u32],
+    bounds: &[u32],
     stays: bool,
     i: usize,
     l: usize,
-    j: usize,
-    r: usize,
-) -> bool
-    requires { ⌜ ((k : ℕ) → k < balances → HalfFour (now loads) i l j r k) ⌝ }
-    ensures { λ b. ⌜ b ≡ every balances (leavesRoom (now (loads .entry)) stays i l j r) ⌝ }
+)
+    requires { ⌜ (length (now gives) ≡ 24) × (length (now rooms) ≡ 24) × (length (now bounds) ≡ 24) × (balances ≤ 24) ⌝ }
+    requires { ⌜ HalfRow (now loads) balances i × HalfRow (now loads) balances l ⌝ }
+    ensures { λ _. ⌜ Differences balances (now (loads .entry)) (now (bounds .entry)) stays i l (now (gives .exit)) (now (rooms .exit)) ⌝ }
+{
+    let mut k: usize = 0;
+    while k < balances {
+        let weight = loads::load_at(loads, i, k);
+        gives[k] = difference(65536 + gone(stays, weight), loads::load_at(loads, l, k));
+        rooms[k] = difference(cap(bounds[k]) + 1, weight);
+        k += 1;
+    }
+}
+
+// No balance has the weights of the receiver and of node j above its bound. The loop has no way out, so that several balances are compared at once.
+fn fits_beside(balances: usize, loads: &[u32], rooms: &[u32], j: usize) -> bool
+    requires { ⌜ Rooms balances (now loads) (now rooms) j ⌝ }
+    ensures { λ b. ⌜ b ≡ every balances (fitsBeside (now (loads .entry)) (now (rooms .entry)) j) ⌝ }
+{
+    let mut fits = true;
+    let mut k: usize = 0;
+    while k < balances {
+        fits = fits & loads::less(loads::load_at(loads, j, k), rooms[k]);
+        k += 1;
+    }
+    fits
+}
+
+// Receiver p and q are a live pair.
+fn live(balances: usize, rows: &[u64], loads: &[u32], rooms: &[u32], p: Side, q: Side) -> bool
+    requires { ⌜ Rooms balances (now loads) (now rooms) (q .number) ⌝ }
+    requires { ⌜ (isAgent (nodeOf (p .node)) ≡ true) × NameRow (now rows) p × NameRow (now rows) q ⌝ }
+    ensures { λ b. ⌜ b ≡ liveBy (now (rows .entry)) (now (loads .entry)) (now (rooms .entry)) balances p q ⌝ }
+{
+    if !meet(rows, p, q) {
+        return false;
+    }
+    fits_beside(balances, loads, rooms, q.number)
+}
+
+// What sender j with continuation r needs of a receiver in balance k.
+pub fn need(loads: &[u32], j: usize, r: usize, k: usize) -> u32
+    requires { ⌜ NeedThere (now loads) j r k ⌝ }
+    ensures { λ n. ⌜ (n ≡ needOf (now (loads .entry)) j r k) × (n < 268435456) ⌝ }
+{
+    loads::load_at(loads, r, k) + 65536 - loads::load_at(loads, j, k)
+}
+
+// Rule 4 at balance k, for sender j with continuation r: the receiver gives what it needs.
+fn balance_holds(loads: &[u32], gives: &[u32], j: usize, r: usize, k: usize) -> bool
+    requires { ⌜ Gives (now loads) (now gives) j r k ⌝ }
+    ensures { λ b. ⌜ b ≡ givesTo (now (loads .entry)) (now (gives .entry)) j r k ⌝ }
+{
+    !loads::less(gives[k], need(loads, j, r, k))
+}
+
+// Rule 4 in every balance, without a way out of the loop.
+fn balances_hold(balances: usize, loads: &[u32], gives: &[u32], j: usize, r: usize) -> bool
+    requires { ⌜ ((k : ℕ) → k < balances → Gives (now loads) (now gives) j r k) ⌝ }
+    ensures { λ b. ⌜ b ≡ every balances (givesTo (now (loads .entry)) (now (gives .entry)) j r) ⌝ }
 {
     let mut holds = true;
     let mut k: usize = 0;
     while k < balances {
-        holds = holds & balance_holds(loads, stays, i, l, j, r, k);
+        holds = holds & balance_holds(loads, gives, j, r, k);
         k += 1;
     }
     holds
@@ -161,41 +195,42 @@ fn arguments_hold(rows: &[u64], p: Side, q: Side) -> bool
 }
 
 // The rule holds at every figure of the pair.
-fn all_hold(rule: u8, balances: usize, rows: &[u64], loads: &[u32], p: Side, q: Side) -> bool
-    requires { ⌜ Figures rule balances (now rows) (now loads) p q ⌝ }
-    ensures { λ b. ⌜ b ≡ allHold rule balances (now (rows .entry)) (now (loads .entry)) p q ⌝ }
+fn all_hold(
+    rule: u8,
+    balances: usize,
+    rows: &[u64],
+    loads: &[u32],
+    gives: &[u32],
+    p: Side,
+    q: Side,
+) -> bool
+    requires { ⌜ Figures rule balances (now rows) (now loads) (now gives) p q ⌝ }
+    ensures { λ b. ⌜ b ≡ allHoldBy rule balances (now (rows .entry)) (now (loads .entry)) (now (gives .entry)) p q ⌝ }
 {
     if rule == 3 {
         return arguments_hold(rows, p, q);
     }
-    balances_hold(
-        balances,
-        loads,
-        records::is_resource(p.node),
-        p.number,
-        p.node.left,
-        q.number,
-        q.node.left,
-    )
+    balances_hold(balances, loads, gives, q.number, q.node.left)
 }
 
 // The rule holds at figure n of the live pair p, q.
-fn figure_holds(rule: u8, rows: &[u64], loads: &[u32], p: Side, q: Side, n: usize) -> bool
-    requires { ⌜ (eqb rule 3 ≡ true → ArgumentRows (now rows) p q n) × (eqb rule 3 ≡ false → HalfPair (now loads) p q n) ⌝ }
-    ensures { λ b. ⌜ b ≡ holdsAt rule (now (rows .entry)) (now (loads .entry)) p q n ⌝ }
+fn figure_holds(
+    rule: u8,
+    rows: &[u64],
+    loads: &[u32],
+    gives: &[u32],
+    p: Side,
+    q: Side,
+    n: usize,
+) -> bool
+    requires { ⌜ (eqb rule 3 ≡ true → ArgumentRows (now rows) p q n)
+        × (eqb rule 3 ≡ false → Gives (now loads) (now gives) (q .number) (q .node .left) n) ⌝ }
+    ensures { λ b. ⌜ b ≡ holdsBy rule (now (rows .entry)) (now (loads .entry)) (now (gives .entry)) p q n ⌝ }
 {
     if rule == 3 {
         return argument_holds(rows, p, q, n);
     }
-    balance_holds(
-        loads,
-        records::is_resource(p.node),
-        p.number,
-        p.node.left,
-        q.number,
-        q.node.left,
-        n,
-    )
+    balance_holds(loads, gives, q.number, q.node.left, n)
 }
 
 // The pair is live, and breaks the rule. Balances that would end its life are looked at last. For the filter, which asks this of many pairs; the
@@ -205,27 +240,27 @@ pub fn breaks(
     balances: usize,
     rows: &[u64],
     loads: &[u32],
-    bounds: &[u32],
+    gives: &[u32],
+    rooms: &[u32],
     p: Side,
     q: Side,
 ) -> bool
-    requires { ⌜ (balances ≤ length (now bounds)) × HalfRow (now loads) balances (p .number) × HalfRow (now loads) balances (q .number) ⌝ }
+    requires { ⌜ Rooms balances (now loads) (now rooms) (q .number) ⌝ }
     requires { ⌜ (isAgent (nodeOf (p .node)) ≡ true) × NameRow (now rows) p × NameRow (now rows) q ⌝ }
-    requires { ⌜ (meets (now rows) p q ≡ true → Figures rule balances (now rows) (now loads) p q) ⌝ }
-    ensures { λ b. ⌜ b ≡ livePair (now (rows .entry)) (now (loads .entry)) (now (bounds .entry)) balances p q
-        && not (allHold rule balances (now (rows .entry)) (now (loads .entry)) p q) ⌝ }
+    requires { ⌜ (meets (now rows) p q ≡ true → Figures rule balances (now rows) (now loads) (now gives) p q) ⌝ }
+    ensures { λ b. ⌜ b ≡ liveBy (now (rows .entry)) (now (loads .entry)) (now (rooms .entry)) balances p q
+        && not (allHoldBy rule balances (now (rows .entry)) (now (loads .entry)) (now (gives .entry)) p q) ⌝ }
 {
     if !meet(rows, p, q) {
         return false;
     }
-    if all_hold(rule, balances, rows, loads, p, q) {
+    if all_hold(rule, balances, rows, loads, gives, p, q) {
         return false;
     }
-    fit_both(balances, loads, bounds, p.number, q.number)
+    fits_beside(balances, loads, rooms, q.number)
 }
 
-// Rule 3 or 4: the first live pair that breaks it, lowest receiver, then lowest sender, then the last figure. Receivers that the list of suspects
-// leaves out are passed over.
+// Rule 3 or 4: the first live pair that breaks it, lowest receiver, then lowest sender, then the last figure. Nothing is found below receiver `from`.
 pub fn first_pair(
     rule: u8,
     file: &[u8],
@@ -234,20 +269,17 @@ pub fn first_pair(
     rows: &[u64],
     loads: &[u32],
     bounds: &[u32],
-    suspects: &[u8],
+    from: usize,
 ) -> Place
-    requires { ⌜ Given (setting (now file) t balances (now rows) (now loads) (now bounds)) × (length (now suspects) ≡ 1024)
-        × Screened rule (arrayOf (now file) t) (listTable (now rows) (now loads) (now bounds) balances) (now suspects) ⌝ }
+    requires { ⌜ Given (setting (now file) t balances (now rows) (now loads) (now bounds)) × (from ≤ t .nodes)
+        × Screened rule (arrayOf (now file) t) (listTable (now rows) (now loads) (now bounds) balances) from ⌝ }
     ensures { λ r. ⌜ placed rule r
         ≡ pairsOf rule (arrayOf (now (file .entry)) t) (listTable (now (rows .entry)) (now (loads .entry)) (now (bounds .entry)) balances) ⌝ }
     ensures { λ r. ⌜ SmallFigure r ⌝ }
 {
     let nodes = t.nodes;
     let mut answer = Place::Nowhere;
-    'receiver: for i in 0..nodes {
-        if suspects[i] == 0 {
-            continue 'receiver;
-        }
+    'receiver: for i in from..nodes {
         let p = Side {
             number: i,
             node: records::node_at(file, t, i),
@@ -256,17 +288,29 @@ pub fn first_pair(
         if count == 0 {
             continue 'receiver;
         }
+        let mut gives = [0u32; 24];
+        let mut rooms = [0u32; 24];
+        differences(
+            &mut gives,
+            &mut rooms,
+            balances,
+            loads,
+            bounds,
+            records::is_resource(p.node),
+            i,
+            p.node.left,
+        );
         'sender: for j in 0..nodes {
             let q = Side {
                 number: j,
                 node: records::node_at(file, t, j),
             };
-            if !live(balances, rows, loads, bounds, p, q) {
+            if !live(balances, rows, loads, &rooms, p, q) {
                 continue 'sender;
             }
             // In rule 3 the last figure is an argument, in rule 4 a balance.
             'balance: for n in 0..count {
-                if !figure_holds(rule, rows, loads, p, q, n) {
+                if !figure_holds(rule, rows, loads, &gives, p, q, n) {
                     answer = Place::At(i, j, n);
                     break 'receiver;
                 }

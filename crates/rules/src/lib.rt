@@ -85,8 +85,8 @@ fn third_rule(
     requires { ⌜ Given (setting (now file) t balances (now rows) (now loads) (now bounds)) ⌝ }
     ensures { λ r. ⌜ ruled r ≡ M.check3 (arrayOf (now (file .entry)) t) (listTable (now (rows .entry)) (now (loads .entry)) (now (bounds .entry)) balances) ⌝ }
 {
-    let suspects = filter::suspects(3, file, t, balances, rows, loads, bounds);
-    match pairs::first_pair(3, file, t, balances, rows, loads, bounds, &suspects) {
+    let from = filter::first_suspect(3, file, t, balances, rows, loads, bounds);
+    match pairs::first_pair(3, file, t, balances, rows, loads, bounds, from) {
         Place::Nowhere => Ruling::Held,
         Place::At(p, q, n) => Ruling::Rule3(p, q, n + 1),
     }
@@ -104,8 +104,8 @@ fn fourth_rule(
     requires { ⌜ Given (setting (now file) t balances (now rows) (now loads) (now bounds)) ⌝ }
     ensures { λ r. ⌜ ruled r ≡ M.check4 (arrayOf (now (file .entry)) t) (listTable (now (rows .entry)) (now (loads .entry)) (now (bounds .entry)) balances) ⌝ }
 {
-    let suspects = filter::suspects(4, file, t, balances, rows, loads, bounds);
-    match pairs::first_pair(4, file, t, balances, rows, loads, bounds, &suspects) {
+    let from = filter::first_suspect(4, file, t, balances, rows, loads, bounds);
+    match pairs::first_pair(4, file, t, balances, rows, loads, bounds, from) {
         Place::Nowhere => Ruling::Held,
         Place::At(p, q, n) => Ruling::Rule4(p, q, n),
     }

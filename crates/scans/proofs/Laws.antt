@@ -26,7 +26,7 @@ use Rattle.records.specs.Record.{recordOf, nodeOf, arrayOf}
 use Rattle.records.proofs.Laws.{node-of}
 use Rattle.fields.specs.Fields.{badAt, firstBad}
 use Rattle.fields.proofs.Laws.{first-bad-6, first-bad-7, first-bad-8}
-use Rattle.counts.proofs.Laws.{Counted, counted-none, counted-more, counted-below, zeros-below, few-args, children-le, binds-le, adds, counted-all}
+use Rattle.counts.proofs.Laws.{Counted, counted-none, counted-more, counted-below, zeros-below, few-args, binds-le, adds, counted-all}
 use Rattle.scopes.proofs.Table.{uses-bytes, binds-bytes}
 use Rattle.scans.proofs.Node.{no-child}
 use Rattle.scans.specs.Pass.{Clear, countFits, Ready, Passed}
@@ -93,16 +93,13 @@ scanned-start width s t e f g = record {
 
 module _ (width : ℕ) (s : List ℕ) (t : Trailer) (reach parents bound : List ℕ) (j : ℕ) (h : Scanned width s t reach parents bound j)
     (room : t .nodes ≤ width) where
-  -- there is room, since a node adds at most 2 to a count of fields and at most 9 to one of binders
+  -- there is room, since a node adds at most 9 to a count of binders
   pub scanned-ready : t .nodes ≤ 1024 → j < t .nodes → Ready (t .nodes) j reach parents bound
   scanned-ready few l = record {
     here = l;
     rows = let e = h .rows in omega arith;
     nodes = let e = wide width (h .fields .0) in omega arith;
     names = h .counts .0;
-    fewFields =
-        counted-below (replicate width 0) parents (adds children s t) j (h .fields) 1 2 65000 (zeros-below width)
-        (λ k. children-le (recordOf s t k)) (omega arith);
     fewNames =
         counted-below (replicate 256 0) bound (adds binds s t) j (h .counts) 1 9 60000 (zeros-below 256)
         (λ k. binds-le (recordOf s t k) (few-args s (t .start + 16 * k))) (omega arith);

@@ -6,12 +6,12 @@ use mathlib.Core.Logic.{⊎-elim}
 use mathlib.Core.Bool.{Bool, true, false, _&&_, _||_, or-false}
 use mathlib.Core.List.{List}
 use lib.Dec.{eqb, leb, ltb}
-use lib.ListN.{length, getD, replicate}
+use lib.ListN.{length, replicate}
 use borrow.Author.Tests.{ltb-true, leb-true}
 use Rattle.laws.specs.Search.{every, any, sum}
 use Rattle.laws.specs.Lists.{one, all, has, times}
 use Rattle.laws.proofs.Search.{decided, and-split, and-join}
-use Rattle.laws.proofs.Lists.{one-le, all-has}
+use Rattle.laws.proofs.Lists.{all-has}
 use Rattle.model.specs.Tree.{isAgent}
 use Rattle.model.specs.Memory.{isOut}
 use Rattle.model.specs.Formed.{children, binds, uses, childFits}
@@ -126,7 +126,7 @@ module _ (m i : ℕ) (r : Record) (fits : childrenFit m i r ≡ true) where
 
 -- what a child needs to be handed down to
 abbrev pub Open : ℕ → ℕ → List ℕ → List ℕ → Type 0
-Open i c reach parents = (i < c) × HasRow reach c × (c < length parents) × (getD parents c 0 < 65535)
+Open i c reach parents = (i < c) × HasRow reach c × (c < length parents)
 
 module _ {m i : ℕ} {reach parents binders : List ℕ} (ready : Ready m i reach parents binders) (r : Record) (test : recordFits m i r ≡ true) where
   above : childrenFit m i r ≡ true
@@ -149,20 +149,17 @@ module _ {m i : ℕ} {reach parents binders : List ℕ} (ready : Ready m i reach
       let f = child-above m i r above c h in
       let e = ready .rows in
       let n = ready .nodes in
-      (f .0, omega (arith, f .1), omega (arith, f .1), omega (arith, ready .fewFields c))
+      (f .0, omega (arith, f .1), omega (arith, f .1))
 
   pub left-open : isStop (nodeOf r) ≡ false → Open i (r .left) reach parents
   left-open e = child-open (r .left) (K.left-child r e)
 
   -- the right child, after the left one was handed down to
   pub right-open : isPar (nodeOf r) || isChoice (nodeOf r) ≡ true → (reach′ parents′ : List ℕ) → length reach′ ≡ length reach
-      → length parents′ ≡ length parents → Grown parents parents′ (λ v. one (eqb v (r .left))) → Open i (r .right) reach′ parents′
-  right-open e reach′ parents′ er ep g =
+      → length parents′ ≡ length parents → Open i (r .right) reach′ parents′
+  right-open e reach′ parents′ er ep =
       let o = child-open (r .right) (K.right-child r e) in
-      let z = g (r .right) (o .2) in
-      let b = one-le (eqb (r .right) (r .left)) in
-      let f = ready .fewFields (r .right) in
-      (o .0, omega (arith, o .1), omega (arith, o .2), omega arith)
+      (o .0, omega (arith, o .1), omega (arith, o .2))
 
   module _ (s : List ℕ) (t : Trailer) (fits : RecordsFit s t) (is : r ≡ recordOf s t i) (nodes : m ≡ t .nodes)
       (rest : RestZero s (t .start + 16 * i + 8) (r .arity)) where

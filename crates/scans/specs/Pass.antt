@@ -52,7 +52,6 @@ pub record Ready (m i : ℕ) (reach parents binders : List ℕ) : Type 0 where
   pub rows : 4 * m ≤ length reach
   pub nodes : m ≤ length parents
   pub names : length binders ≡ 256
-  pub fewFields : Below parents 65000
   pub fewNames : Below binders 60000
 
 -- node i of m, whose record is r, passes 6, 7 and 8, and uses names of its row; its children have its names, and its fields and names are counted

@@ -1,6 +1,6 @@
 // One pass over the records, from the root down, that says yes only where none of the refusals 6 to 12 comes. A no says nothing: the reader then looks
 // for the refusal. Promises specs/Pass, Clear. Depends on fields, scopes and counts (the tests and tables of single refusals), records, marks, wire,
-// model and laws. The tables take 35,328 bytes of stack.
+// model and laws. The tables take 34,304 bytes of stack.
 ghost use mathlib.Core.Path.{_≡_};
 ghost use mathlib.Core.Bool.{true, false};
 ghost use Prim.Native.Nat.{ℕ, _+_, _*_, _<_, _≤_};
@@ -101,20 +101,32 @@ fn count_args(binders: &mut [u16], file: &[u8], at: usize, arity: usize)
     }
 }
 
-// Child `to` of node `from` has the marks of its parent and of what its parent binds, and is named by one field more.
-fn hand_down(reach: &mut [u64], parents: &mut [u16], from: usize, to: usize, bound: [u64; 4])
-    requires { ⌜ (from < to) × HasRow (now reach) to × (to < length (now parents)) × (getD (now parents) to 0 < 65535) ⌝ }
+// Counts one field more that names node `to`. False where a byte holds no more: the file is refused then, since 9 allows one field.
+fn count_field(parents: &mut [u8], to: usize) -> bool
+    requires { ⌜ to < length (now parents) ⌝ }
+    ensures { λ b. ⌜ (b ≡ true → Grown (now (parents .entry)) (now (parents .exit)) (λ v. one (eqb v to))) ⌝ }
+{
+    if parents[to] < 255 {
+        parents[to] = parents[to] + 1;
+        return true;
+    }
+    false
+}
+
+// Child `to` of node `from` has the marks of its parent and of what its parent binds, and is named by one field more. False where the count is full.
+fn hand_down(reach: &mut [u64], parents: &mut [u8], from: usize, to: usize, bound: [u64; 4]) -> bool
+    requires { ⌜ (from < to) × HasRow (now reach) to × (to < length (now parents)) ⌝ }
     ensures { λ _. ⌜ now (reach .exit) ≡ passed (now (reach .entry)) from to bound 4 ⌝ }
-    ensures { λ _. ⌜ Grown (now (parents .entry)) (now (parents .exit)) (λ v. one (eqb v to)) ⌝ }
+    ensures { λ b. ⌜ (b ≡ true → Grown (now (parents .entry)) (now (parents .exit)) (λ v. one (eqb v to))) ⌝ }
 {
     scopes::pass_down(reach, from, to, bound);
-    count(parents, to);
+    count_field(parents, to)
 }
 
 // Passes node i, an agent whose record is r. False where it does not fit.
 fn pass_agent(
     reach: &mut [u64],
-    parents: &mut [u16],
+    parents: &mut [u8],
     binders: &mut [u16],
     file: &[u8],
     t: Trailer,
@@ -134,18 +146,16 @@ fn pass_agent(
         if !args_marked(reach, i, file, at, r.arity) {
             return false;
         }
-        hand_down(reach, parents, i, r.left, [0; 4]);
-        return true;
+        return hand_down(reach, parents, i, r.left, [0; 4]);
     }
     count_args(binders, file, at, r.arity);
-    hand_down(reach, parents, i, r.left, args_row(file, at, r.arity));
-    true
+    hand_down(reach, parents, i, r.left, args_row(file, at, r.arity))
 }
 
 // Passes node i, a stop, new, par or choice whose record is r. False where it does not fit.
 fn pass_other(
     reach: &mut [u64],
-    parents: &mut [u16],
+    parents: &mut [u8],
     binders: &mut [u16],
     file: &[u8],
     t: Trailer,
@@ -166,18 +176,18 @@ fn pass_other(
     }
     if records::is_new(r) {
         count(binders, r.name);
-        hand_down(reach, parents, i, r.left, name_row(r.name));
-        return true;
+        return hand_down(reach, parents, i, r.left, name_row(r.name));
     }
-    hand_down(reach, parents, i, r.left, [0; 4]);
-    hand_down(reach, parents, i, r.right, [0; 4]);
-    true
+    if !hand_down(reach, parents, i, r.left, [0; 4]) {
+        return false;
+    }
+    hand_down(reach, parents, i, r.right, [0; 4])
 }
 
 // Passes node i. False where it does not fit.
 fn pass_node(
     reach: &mut [u64],
-    parents: &mut [u16],
+    parents: &mut [u8],
     binders: &mut [u16],
     file: &[u8],
     t: Trailer,
@@ -210,13 +220,7 @@ fn bound_once(binders: &[u16], n: usize) -> bool
 
 // The pass, over tables without marks and counts: the names that reach each node, how many fields name each node, how often each name is bound.
 // A parent comes before its children, so that a node's row and count are final when it is passed.
-fn scan(
-    reach: &mut [u64],
-    parents: &mut [u16],
-    binders: &mut [u16],
-    file: &[u8],
-    t: Trailer,
-) -> bool
+fn scan(reach: &mut [u64], parents: &mut [u8], binders: &mut [u16], file: &[u8], t: Trailer) -> bool
     requires { ⌜ RecordsFit (now file) t × (t .nodes ≤ 1024) × (t .names ≤ 256) ⌝ }
     requires { ⌜ (now reach ≡ replicate (4 * length (now parents)) 0) × (now parents ≡ replicate (length (now parents)) 0) ⌝ }
     requires { ⌜ (now binders ≡ replicate 256 0) × (t .nodes ≤ length (now parents)) ⌝ }
@@ -241,7 +245,7 @@ fn scan_few(file: &[u8], t: Trailer) -> bool
     ensures { λ b. ⌜ (b ≡ true → Clear (now (file .entry)) t) ⌝ }
 {
     let mut reach = [0u64; 256];
-    let mut parents = [0u16; 64];
+    let mut parents = [0u8; 64];
     let mut binders = [0u16; 256];
     scan(&mut reach, &mut parents, &mut binders, file, t)
 }
@@ -252,7 +256,7 @@ fn scan_many(file: &[u8], t: Trailer) -> bool
     ensures { λ b. ⌜ (b ≡ true → Clear (now (file .entry)) t) ⌝ }
 {
     let mut reach = [0u64; 4096];
-    let mut parents = [0u16; 1024];
+    let mut parents = [0u8; 1024];
     let mut binders = [0u16; 256];
     scan(&mut reach, &mut parents, &mut binders, file, t)
 }

@@ -14,21 +14,16 @@ use Rattle.laws.proofs.Lists.{getD-set}
 use Rattle.marks.specs.Marks.{marked, markIf, inside, Joined}
 use Rattle.marks.proofs.Laws.{marked-inside, inside-trans, join-keeps, marked-set}
 use Rattle.model.specs.Memory.{isOut}
-use Rattle.model.specs.Tree.{isAgent}
 use Rattle.records.specs.declared.Record.{Record}
 use Rattle.records.specs.Record.{nodeOf, recordOf}
 use Rattle.records.proofs.KindLaws.{sender-is}
-use Rattle.arrays.proofs.Agents.{small-arity, left-below, node-is}
+use Rattle.arrays.proofs.Agents.{small-arity}
 use Rattle.loads.specs.Loads.{entryIndex, loadIn}
 use Rattle.pairs.specs.declared.Side.{Side}
 use Rattle.pairs.specs.Pairs.{Setting, Given, Held}
 use Rattle.pairs.proofs.Laws.{name-row, arg-row}
-use Rattle.senders.specs.Sets.{setOf, Family, Room, Covers, Collected, NeedsGrow, RowsGrow, Grown, Askable}
-
--- ---- the set of a sender is one of the sets
-
-pub set-below : (sets : List ℕ) (count q : ℕ) → 0 < count → setOf sets count q < count
-set-below sets count q h = elim (decided (ltb (getD sets q 0) count)) [ inl e ↦ rw e (ltb-true _ _ e) | inr e ↦ rw e h ]
+use Rattle.pairs.proofs.ByDifference.{need-there}
+use Rattle.senders.specs.Sets.{Family, Room, Covers, Collected, NeedsGrow, RowsGrow, Grown, Askable}
 
 -- ---- needs
 
@@ -43,7 +38,7 @@ needs-trans p q = record {
 }
 
 -- an entry that gets no smaller
-module _ (needs : List ℕ) (g k y : ℕ) (there : entryIndex g k < length needs) (more : loadIn needs g k ≤ y) (small : y < 2147483648) where
+module _ (needs : List ℕ) (g k y : ℕ) (there : entryIndex g k < length needs) (more : loadIn needs g k ≤ y) (small : y < 1073741824) where
   abbrev after : List ℕ
   after = set needs (entryIndex g k) y
 
@@ -116,46 +111,36 @@ covers-grown c p = record {
 
 -- ---- each sender below a node
 
-pub collected-none : {rule : ℕ} {S : Setting} {F : Family} {sets : List ℕ} {count : ℕ} → Room F → Collected rule S F sets count 0
-collected-none r = record { room = r; covers = λ q h k l. absurd (omega arith) }
+pub collected-none : {rule : ℕ} {S : Setting} {F : Family} (sets : ℕ → ℕ) → Room F → Collected rule S F sets 0
+collected-none sets r = record { room = r; covers = λ q h k l. absurd (omega arith) }
 
--- one node more: where it sends, its set keeps it
-pub collected-more : {rule : ℕ} {S : Setting} {F G : Family} {sets : List ℕ} {count i : ℕ} → Collected rule S F sets count i → Grown F G
-    → (r : Record) (g : ℕ) → r ≡ recordOf (S .f) (S .t) i → g ≡ setOf sets count i
-    → (isOut (nodeOf r) ≡ true → Covers rule S G g (record { number = i; node = r })) → Collected rule S G sets count (i + 1)
-collected-more {rule} {S} {F} {G} {sets} {count} {i} c p r g read set here = record {
+-- one node more: where it sends, its set keeps it. The nodes before it are in the sets that they were in.
+pub collected-more : {rule : ℕ} {S : Setting} {F G : Family} {i : ℕ} (sets more : ℕ → ℕ) → Collected rule S F sets i → Grown F G
+    → ((x : ℕ) → x < i → more x ≡ sets x) → (r : Record) → r ≡ recordOf (S .f) (S .t) i
+    → (isOut (nodeOf r) ≡ true → Covers rule S G (more i) (record { number = i; node = r })) → Collected rule S G more (i + 1)
+collected-more {rule} {S} {F} {G} {i} sets more c p same r read here = record {
   room = room-grown (c .room) p;
   covers = λ q h k l. elim (decided (ltb (q .number) i)) [
-    | inl e ↦ covers-grown (c .covers q h k (ltb-true _ _ e)) p
+    | inl e ↦
+        let below = ltb-true (q .number) i e in
+        rw (same (q .number) below) (covers-grown (c .covers q h k below) p)
     | inr e ↦ last q h k (let b = ltb-false (q .number) i e in omega arith)
   ];
 }
   where
-    last : (q : Side) → Held S q → isOut (nodeOf (q .node)) ≡ true → q .number ≡ i → Covers rule S G (setOf sets count (q .number)) q
+    last : (q : Side) → Held S q → isOut (nodeOf (q .node)) ≡ true → q .number ≡ i → Covers rule S G (more (q .number)) q
     last q h k e =
         let f : q .node ≡ r = h .is ∙ ap (λ (n : ℕ). recordOf (S .f) (S .t) n) e ∙ sym read in
-        let w : g ≡ setOf sets count (q .number) = set ∙ ap (λ (n : ℕ). setOf sets count n) (sym e) in
-        subst (λ (x : ℕ). Covers rule S G x q) w
-        (subst (λ (x : Side). Covers rule S G g x) (λ j. record { number = sym e j; node = sym f j })
+        subst (λ (x : ℕ). Covers rule S G x q) (ap more (sym e))
+        (subst (λ (x : Side). Covers rule S G (more i) x) (λ j. record { number = sym e j; node = sym f j })
         (here (ap (λ (x : Record). isOut (nodeOf x)) (sym f) ∙ k)))
-
--- fewer nodes
-pub collected-less : {rule : ℕ} {S : Setting} {F : Family} {sets : List ℕ} {count m n : ℕ} → Collected rule S F sets count n → m ≤ n
-    → Collected rule S F sets count m
-collected-less c h = record { room = c .room; covers = λ q p k l. c .covers q p k (le-trans l h) }
 
 -- the lists have what is asked of a sender of the file
 pub askable : {S : Setting} → Given S → {q : Side} → Held S q → isOut (nodeOf (q .node)) ≡ true → Askable (S .n) (S .rows) (S .loads) q
 askable {S} g {q} h k =
     let a = sender-is (q .node) k .0 in
-    let left = left-below (g .read) h a in
-    let w = g .weighed in
     record {
       name = name-row g h a;
       sent = record { few = small-arity (g .read) h; args = λ m l. arg-row g h a m l };
-      needs = record {
-        few = g .lists .few;
-        left = λ m l. (w .half _ left m l .0, w .small _ m left l);
-        own = λ m l. (w .half _ (h .below) m l .0, w .light _ m (ap isAgent (node-is (g .read) h) ∙ a) l);
-      };
+      needs = record { few = g .lists .few; there = need-there g h k };
     }

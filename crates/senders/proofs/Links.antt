@@ -15,30 +15,30 @@ use Rattle.laws.proofs.Lists.{getD-zeros}
 use Rattle.model.specs.Memory.{isOut}
 use Rattle.records.specs.declared.Trailer.{Trailer}
 use Rattle.records.specs.Record.{nodeOf, recordOf}
-use Rattle.senders.specs.Sets.{setOf, Member, linkIf, Linked}
+use Rattle.senders.specs.Sets.{Member, linkIf, Linked}
 
-module _ (f : List ℕ) (t : Trailer) (sets : List ℕ) (count : ℕ) where
+module _ (f : List ℕ) (t : Trailer) (sets : ℕ → ℕ) where
   abbrev Of : ℕ → ℕ → Type 0
-  Of g q = Member f t sets count g q
+  Of g q = Member f t sets g q
 
   -- the senders below node n are linked
   pub record LinkedTo (links : List ℕ) (n : ℕ) : Type 0 where
-    pub size : length links ≡ 1040
+    pub size : length links ≡ 1036
     pub last : (g q : ℕ) → Of g q → q < n → q < getD links (1024 + g) 0
     pub lastOf : (g q : ℕ) → getD links (1024 + g) 0 ≡ q + 1 → Of g q × (q < n)
     pub before : (g p q : ℕ) → Of g p → Of g q → q < n → p < q → p < getD links q 0
     pub beforeOf : (g p q : ℕ) → Of g q → q < n → getD links q 0 ≡ p + 1 → Of g p × (p < q)
 
-  pub linked-none : LinkedTo (replicate 1040 0) 0
+  pub linked-none : LinkedTo (replicate 1036 0) 0
   linked-none = record {
-    size = length-replicate {A = ℕ} 1040 0;
+    size = length-replicate {A = ℕ} 1036 0;
     last = λ g q h l. absurd (omega arith);
-    lastOf = λ g q e. absurd (omega (arith, getD-zeros 1040 (1024 + g), e));
+    lastOf = λ g q e. absurd (omega (arith, getD-zeros 1036 (1024 + g), e));
     before = λ g p q h k l. absurd (omega arith);
     beforeOf = λ g p q h l. absurd (omega arith);
   }
 
-  pub linked-all : (links : List ℕ) → LinkedTo links (t .nodes) → Linked f t sets count links
+  pub linked-all : (links : List ℕ) → LinkedTo links (t .nodes) → Linked f t sets links
   linked-all links l = record {
     size = l .size;
     last = λ g q h. l .last g q h (h .0);
@@ -49,7 +49,7 @@ module _ (f : List ℕ) (t : Trailer) (sets : List ℕ) (count : ℕ) where
 
   module _ (links : List ℕ) (q : ℕ) (room : q < 1024) (here : q < t .nodes) (l : LinkedTo links q) where
     abbrev own : ℕ
-    own = setOf sets count q
+    own = sets q
 
     abbrev sends : Bool
     sends = isOut (nodeOf (recordOf f t q))
@@ -74,7 +74,7 @@ module _ (f : List ℕ) (t : Trailer) (sets : List ℕ) (count : ℕ) where
           | inr e ↦ e
         ]
 
-    module _ (on : sends ≡ true) (few : own < 16) where
+    module _ (on : sends ≡ true) (few : own < 12) where
       abbrev lead : ℕ
       lead = getD links (1024 + own) 0
 
@@ -84,7 +84,7 @@ module _ (f : List ℕ) (t : Trailer) (sets : List ℕ) (count : ℕ) where
       abbrev more : List ℕ
       more = set half (1024 + own) (q + 1)
 
-      room-is : length half ≡ 1040
+      room-is : length half ≡ 1036
       room-is = length-set links q lead ∙ l .size
 
       -- the entries written, and the others
@@ -107,7 +107,7 @@ module _ (f : List ℕ) (t : Trailer) (sets : List ℕ) (count : ℕ) where
       member = (here, on, refl)
 
       of-own : (g x : ℕ) → Of g x → x ≡ q → g ≡ own
-      of-own g x h e = sym (h .2) ∙ ap (λ (n : ℕ). setOf sets count n) e
+      of-own g x h e = sym (h .2) ∙ ap sets e
 
       same-set : (g : ℕ) → (g ≡ own) ⊎ (g ≢ own)
       same-set g = elim (decided (eqb g own)) [ inl e ↦ inl (eqb-true g own e) | inr e ↦ inr (eqb-false g own e) ]
@@ -150,5 +150,22 @@ module _ (f : List ℕ) (t : Trailer) (sets : List ℕ) (count : ℕ) where
         beforeOf = linked-beforeOf;
       }
 
-    pub linked-more : own < 16 → LinkedTo (linkIf links sends own q) (q + 1)
+    pub linked-more : own < 12 → LinkedTo (linkIf links sends own q) (q + 1)
     linked-more few = elim (decided sends) [ inl e ↦ rw e (linked-put e few) | inr e ↦ rw e (linked-skip e) ]
+
+-- the sets of the nodes below are what counts
+pub linked-same : (f : List ℕ) (t : Trailer) (sets more : ℕ → ℕ) (links : List ℕ) (n : ℕ) → ((x : ℕ) → x < n → more x ≡ sets x)
+    → LinkedTo f t sets links n → LinkedTo f t more links n
+linked-same f t sets more links n same l = record {
+  size = l .size;
+  last = λ g q h b. l .last g q (there g q b h) b;
+  lastOf = λ g q e. let a = l .lastOf g q e in (back g q (a .1) (a .0), a .1);
+  before = λ g p q h k b less. l .before g p q (there g p (omega (arith, less, b)) h) (there g q b k) b less;
+  beforeOf = λ g p q h b e. let a = l .beforeOf g p q (there g q b h) b e in (back g p (omega (arith, a .1, b)) (a .0), a .1);
+}
+  where
+    there : (g q : ℕ) → q < n → Member f t more g q → Member f t sets g q
+    there g q b h = (h .0, h .1, sym (same q b) ∙ h .2)
+
+    back : (g q : ℕ) → q < n → Member f t sets g q → Member f t more g q
+    back g q b h = (h .0, h .1, same q b ∙ h .2)

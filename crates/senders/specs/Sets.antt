@@ -1,23 +1,18 @@
 -- Sets of senders: what a set keeps of all its senders together, and how they are linked.
-use Prim.Native.Nat.{ℕ, _+_, _*_, _-_, _≤_, _<_}
+use Prim.Native.Nat.{ℕ, _+_, _*_, _≤_, _<_}
 use mathlib.Core.Path.{_≡_}
 use mathlib.Core.Bool.{Bool, true, false, cond}
 use mathlib.Core.List.{List}
-use lib.Dec.{eqb, ltb}
+use lib.Dec.{eqb}
 use lib.ListN.{length, getD, set}
 use Rattle.marks.specs.Marks.{HasRow, marked, inside}
 use Rattle.model.specs.Memory.{isOut}
 use Rattle.records.specs.declared.Record.{Record}
 use Rattle.records.specs.declared.Trailer.{Trailer}
 use Rattle.records.specs.Record.{nodeOf, recordOf}
-use Rattle.loads.specs.Loads.{entryIndex, loadIn}
+use Rattle.loads.specs.Loads.{loadIn}
 use Rattle.pairs.specs.declared.Side.{Side}
-use Rattle.pairs.specs.Pairs.{Setting, setting, Held}
-
--- ---- which set a sender is in. The list is free: whatever it says, each sender is in one of the sets.
-
-abbrev pub setOf : List ℕ → ℕ → ℕ → ℕ
-setOf sets count q = cond (ltb (getD sets q 0) count) (getD sets q 0) 0
+use Rattle.pairs.specs.Pairs.{Setting, setting, Held, needOf, NeedThere}
 
 -- ---- what a set keeps
 
@@ -27,13 +22,9 @@ arityMark g n = 16 * g + n
 
 -- the row of what is sent as argument m; row g is that of the channels
 abbrev pub sentRow : ℕ → ℕ → ℕ
-sentRow g m = 16 + (8 * g + m)
+sentRow g m = 12 + (8 * g + m)
 
--- "the largest need": what a sender needs of a receiver in balance k, load of the continuation + 65,536 − weight
-abbrev pub needOf : List ℕ → Side → ℕ → ℕ
-needOf loads q k = (loadIn loads (q .node .left) k + 65536) - loadIn loads (q .number) k
-
--- the lists of a family of at most 16 sets: what they need, rows of channels and of what is sent, arities
+-- the lists of a family of 12 sets: "the largest need" in each balance, rows of channels and of what is sent, arities
 pub record Family : Type 0 where
   pub needs : List ℕ
   pub unions : List ℕ
@@ -42,13 +33,13 @@ pub record Family : Type 0 where
 abbrev pub family : List ℕ → List ℕ → List ℕ → Family
 family needs unions arities = record { needs = needs; unions = unions; arities = arities }
 
--- the sum of an entry and a load fits 32 bits
+-- the sum of an entry and a load may be compared
 abbrev pub HalfNeeds : List ℕ → Type 0
-HalfNeeds needs = (g k : ℕ) → loadIn needs g k < 2147483648
+HalfNeeds needs = (g k : ℕ) → loadIn needs g k < 1073741824
 
 pub record Room (F : Family) : Type 0 where
-  pub needs : length (F .needs) ≡ 384
-  pub unions : length (F .unions) ≡ 576
+  pub needs : length (F .needs) ≡ 288
+  pub unions : length (F .unions) ≡ 432
   pub arities : length (F .arities) ≡ 4
   pub half : HalfNeeds (F .needs)
 
@@ -57,7 +48,7 @@ abbrev pub SentKept : List ℕ → List ℕ → ℕ → Record → Type 0
 SentKept rows unions g r = (m : ℕ) → m < r .arity → inside rows (getD (r .args) m 0) unions (sentRow g m) ≡ true
 
 abbrev pub NeedsKept : ℕ → List ℕ → List ℕ → ℕ → Side → Type 0
-NeedsKept n loads needs g q = (k : ℕ) → k < n → needOf loads q k ≤ loadIn needs g k
+NeedsKept n loads needs g q = (k : ℕ) → k < n → needOf loads (q .number) (q .node .left) k ≤ loadIn needs g k
 
 -- set g keeps what sender q asks of a receiver, by rule 3 what it sends, by rule 4 what it needs
 pub record Covers (rule : ℕ) (S : Setting) (F : Family) (g : ℕ) (q : Side) : Type 0 where
@@ -66,10 +57,10 @@ pub record Covers (rule : ℕ) (S : Setting) (F : Family) (g : ℕ) (q : Side) :
   pub sent : eqb rule 3 ≡ true → SentKept (S .rows) (F .unions) g (q .node)
   pub needs : eqb rule 3 ≡ false → NeedsKept (S .n) (S .loads) (F .needs) g q
 
--- each sender below node n is kept by its set
-pub record Collected (rule : ℕ) (S : Setting) (F : Family) (sets : List ℕ) (count n : ℕ) : Type 0 where
+-- each sender below node n is kept by its set. Which set that is, is free.
+pub record Collected (rule : ℕ) (S : Setting) (F : Family) (sets : ℕ → ℕ) (n : ℕ) : Type 0 where
   pub room : Room F
-  pub covers : (q : Side) → Held S q → isOut (nodeOf (q .node)) ≡ true → q .number < n → Covers rule S F (setOf sets count (q .number)) q
+  pub covers : (q : Side) → Held S q → isOut (nodeOf (q .node)) ≡ true → q .number < n → Covers rule S F (sets (q .number)) q
 
 -- ---- how the lists grow while senders are collected
 
@@ -99,11 +90,10 @@ pub record SentRows (rows : List ℕ) (r : Record) : Type 0 where
   pub few : r .arity ≤ 8
   pub args : (m : ℕ) → m < r .arity → HasRow rows (getD (r .args) m 0)
 
--- what sender q needs in n balances can be worked out: its continuation's load is at most 1,024 weights, its own weight has 16 bits
+-- what sender q needs in n balances can be worked out
 pub record NeedsThere (n : ℕ) (loads : List ℕ) (q : Side) : Type 0 where
   pub few : n ≤ 24
-  pub left : (k : ℕ) → k < n → (entryIndex (q .node .left) k < length loads) × (loadIn loads (q .node .left) k < 134217728)
-  pub own : (k : ℕ) → k < n → (entryIndex (q .number) k < length loads) × (loadIn loads (q .number) k < 65536)
+  pub there : (k : ℕ) → k < n → NeedThere loads (q .number) (q .node .left) k
 
 -- the lists have what a set keeps of sender q
 pub record Askable (n : ℕ) (rows loads : List ℕ) (q : Side) : Type 0 where
@@ -114,17 +104,24 @@ pub record Askable (n : ℕ) (rows loads : List ℕ) (q : Side) : Type 0 where
 -- ---- how the senders of a set are linked, from the last to the first
 
 -- node q sends and is of set g
-abbrev pub Member : List ℕ → Trailer → List ℕ → ℕ → ℕ → ℕ → Type 0
-Member f t sets count g q = (q < t .nodes) × (isOut (nodeOf (recordOf f t q)) ≡ true) × (setOf sets count q ≡ g)
+abbrev pub Member : List ℕ → Trailer → (ℕ → ℕ) → ℕ → ℕ → Type 0
+Member f t sets g q = (q < t .nodes) × (isOut (nodeOf (recordOf f t q)) ≡ true) × (sets q ≡ g)
 
 -- node q before the last sender of set g, where the test is true
 abbrev pub linkIf : List ℕ → Bool → ℕ → ℕ → List ℕ
 linkIf links on g q = cond on (set (set links q (getD links (1024 + g) 0)) (1024 + g) (q + 1)) links
 
 -- entry 1,024 + g is 1 + the last sender of set g, and entry q 1 + the sender of its set before q; 0 is none
-pub record Linked (f : List ℕ) (t : Trailer) (sets : List ℕ) (count : ℕ) (links : List ℕ) : Type 0 where
-  pub size : length links ≡ 1040
-  pub last : (g q : ℕ) → Member f t sets count g q → q < getD links (1024 + g) 0
-  pub lastOf : (g q : ℕ) → getD links (1024 + g) 0 ≡ q + 1 → Member f t sets count g q
-  pub before : (g p q : ℕ) → Member f t sets count g p → Member f t sets count g q → p < q → p < getD links q 0
-  pub beforeOf : (g p q : ℕ) → Member f t sets count g q → getD links q 0 ≡ p + 1 → Member f t sets count g p × (p < q)
+pub record Linked (f : List ℕ) (t : Trailer) (sets : ℕ → ℕ) (links : List ℕ) : Type 0 where
+  pub size : length links ≡ 1036
+  pub last : (g q : ℕ) → Member f t sets g q → q < getD links (1024 + g) 0
+  pub lastOf : (g q : ℕ) → getD links (1024 + g) 0 ≡ q + 1 → Member f t sets g q
+  pub before : (g p q : ℕ) → Member f t sets g p → Member f t sets g q → p < q → p < getD links q 0
+  pub beforeOf : (g p q : ℕ) → Member f t sets g q → getD links q 0 ≡ p + 1 → Member f t sets g p × (p < q)
+
+-- ---- the sets that the lists stand for: each sender is in one of 12, which keeps it, and the links pass the senders of each
+pub record Gathered (rule : ℕ) (S : Setting) (F : Family) (links : List ℕ) : Type 0 where
+  pub sets : ℕ → ℕ
+  pub few : (q : ℕ) → sets q < 12
+  pub collected : Collected rule S F sets (S .t .nodes)
+  pub linked : Linked (S .f) (S .t) sets links

@@ -13,10 +13,10 @@ use Rattle.counts.proofs.bad_binding.Tie as tie
 returns : tie.Need-returns
 unfolding refusal11
 returns c =
-    let t = c .before .before .before .before .args .t in
+    let t = c .before .before .before .before .before .before .args .t in
     c .first-not-one .ensures
     ∙ first-same (t .names) _ _
-    (λ k l. ap₂ (λ (b : Bool) (x : ℕ). refuse 11 k (b || eqb x 1)) (leb·suc-zero k) (c .before .before .count-binders .ensures k (omega arith)))
+    (λ k l. ap₂ (λ (b : Bool) (x : ℕ). refuse 11 k (b || eqb x 1)) (leb·suc-zero k) (c .before .before .before .count-binders .ensures k (omega arith)))
 
 pub bad-binding-spec : {M : Type 1} → statement M
-bad-binding-spec = tie.close (tie.spec (λ c κs. search needs) (λ c. search needs) (λ c κs. search needs) returns)
+bad-binding-spec = tie.close (tie.spec (λ c. search needs) (λ c κs. search needs) (λ c. search needs) (λ c κs. search needs) returns)

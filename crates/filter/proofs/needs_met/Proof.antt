@@ -16,30 +16,41 @@ Inv-loop balances needs loads g stays i l met₀ k₀ met k = (k ≤ balances) �
 abbrev μ-loop : tie.MeasureT-loop
 μ-loop balances needs loads g stays i l met₀ k₀ met k = balances - k
 
+-- stations
+abbrev at-loop-test : tie.After-load-at3 Inv-loop μ-loop → tie.In-loop Inv-loop μ-loop
+at-loop-test c = c .before .before .before .before
+
+abbrev at-start : tie.In-loop Inv-loop μ-loop → tie.Start Inv-loop μ-loop
+at-start c = c .before .before .before .before
+
 loop-holds : tie.Need-loop-holds Inv-loop μ-loop
 loop-holds c = (search needs, sym (every-zero _))
 
 load-at-requires : tie.Need-load-at-requires Inv-loop μ-loop
-load-at-requires c κs = c .before .before .before .before .pre (c .before .loop .k) (c .loop-test .taken) .1
+load-at-requires c κs = let n = c .before .before .before .before .pre (c .before .loop .k) (c .loop-test .taken) in (n .4, omega (arith, n .5))
 
 load-at-requires-2 : tie.Need-load-at-requires-2 Inv-loop μ-loop
-load-at-requires-2 c κs = c .before .before .before .before .before .pre (c .before .before .loop .k) (c .before .loop-test .taken) .0
+load-at-requires-2 c κs = let n = c .before .before .before .before .before .before .pre (c .before .before .before .loop .k) (c .before .before .loop-test .taken) in (n .2, omega (arith, n .3))
 
 load-at-requires-3 : tie.Need-load-at-requires-3 Inv-loop μ-loop
-load-at-requires-3 c κs = c .before .before .before .before .before .before .pre (c .before .before .before .loop .k) (c .before .before .loop-test .taken) .2
+load-at-requires-3 c κs = let n = c .before .before .before .before .before .before .before .pre (c .before .before .before .before .loop .k) (c .before .before .before .loop-test .taken) in (n .0, omega (arith, n .1))
+
+add-given : tie.Need-add-given Inv-loop μ-loop
+add-given c = omega (arith, c .gone .ensures .1, c .before .load-at .ensures .1)
+
+less-requires : tie.Need-less-requires Inv-loop μ-loop
+less-requires c κs =
+    let n = c .before .before .before .before .before .before .before .before .pre (c .before .before .before .before .before .loop .k) (c .before .before .before .before .loop-test .taken) in (
+      omega (arith, c .before .before .gone .ensures .1, c .before .before .before .load-at .ensures .0, n .5),
+      omega (arith, c .before .load-at2 .ensures .0, c .load-at3 .ensures .0, n .3, n .1),
+    )
 
 loop-again : tie.Need-loop-again Inv-loop μ-loop
 loop-again c =
-    let l = c .before .before .before .before .before .loop in
-    let x = c .before .before .before .before .before .before .before .before .args in (
+    let l = c .before .before .before .before .before .before .loop in
+    let x = at-start (at-loop-test (c .before)) .args in (
       search needs,
-      rw (
-        l .inv .1,
-        c .before .before .before .load-at .ensures .0,
-        c .before .before .load-at2 .ensures .0,
-        c .gone .ensures .0,
-        c .before .load-at3 .ensures .0,
-      )
+      rw (l .inv .1, c .less .ensures, c .before .before .load-at2 .ensures .0, c .before .load-at3 .ensures .0, c .before .before .before .gone .ensures .0, c .before .before .before .before .load-at .ensures .0)
           (sym (every-step (needMet (now (x .needs)) (now (x .loads)) (x .g) (x .stays) (x .i) (x .l)) (l .k))),
     )
 
@@ -52,5 +63,5 @@ pub needs-met-spec : {M : Type 1} → statement M
 needs-met-spec =
     tie.close
     (tie.spec
-    Inv-loop μ-loop loop-holds load-at-requires load-at-requires-2 (λ c. search needs) load-at-requires-3 (λ c κs. search needs)
-    (λ c. search needs) (λ c. search needs) (λ c. search needs) loop-again returns)
+    Inv-loop μ-loop loop-holds load-at-requires (λ c κs. search needs) add-given load-at-requires-2 load-at-requires-3 (λ c. search needs)
+    less-requires (λ c. search needs) (λ c. search needs) loop-again returns)

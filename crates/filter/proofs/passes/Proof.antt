@@ -13,11 +13,11 @@ use Rattle.filter.proofs.passes.Statement.{statement}
 use Rattle.filter.proofs.passes.Tie as tie
 
 abbrev Inv-loop : tie.InvT-loop
-Inv-loop rule file t balances rows loads bounds needs unions arities links deep count p g₀ g =
-    (g ≤ count) × SetsSound rule (setting file t balances rows loads bounds) (family needs unions arities) links deep count p g
+Inv-loop rule file t balances rows loads bounds needs unions arities links deep p g₀ g =
+    (g ≤ 12) × SetsSound rule (setting file t balances rows loads bounds) (family needs unions arities) links p g
 
 abbrev μ-loop : tie.MeasureT-loop
-μ-loop rule file t balances rows loads bounds needs unions arities links deep count p g₀ g = count - g
+μ-loop rule file t balances rows loads bounds needs unions arities links deep p g₀ g = 12 - g
 
 -- stations
 abbrev at-shared-slice-known4 : tie.After-shared-slice-known8 Inv-loop μ-loop → tie.After-shared-slice-known4 Inv-loop μ-loop
@@ -34,8 +34,8 @@ loop-holds c = (search needs, λ sets all links g h. absurd (omega (arith, h)))
 
 set-passes-requires : tie.Need-set-passes-requires Inv-loop μ-loop
 set-passes-requires c κs =
-    let s = at-start (at-shared-slice-known4 (c .before .before)) in
-    ((s .pre .0 .0, s .pre .1 .0 .collected .room, s .pre .0 .1, omega (arith, s .pre .0 .2, c .loop-test .taken)), s .pre .1 .1)
+    let s = at-start (at-shared-slice-known4 (c .before .before)) .pre in
+    ((s .0, s .1 .0 .collected .room, s .1 .0 .linked .size, c .loop-test .taken), s .1 .1)
 
 returns : tie.Need-returns Inv-loop μ-loop
 returns c e = absurd (true≢false (sym e))
@@ -45,17 +45,15 @@ loop-again c =
     let x = at-start (at-shared-slice-known4 (at-shared-slice-known8 c)) .args in (
       search needs,
       sets-more (x .rule) (setting (now (x .file)) (x .t) (x .balances) (now (x .rows)) (now (x .loads)) (now (x .bounds)))
-          (family (now (x .needs)) (now (x .unions)) (now (x .arities))) (now (x .links)) (x .deep) (x .count) (x .p) _
-          (c .before .before .before .loop .inv .1)
-          (λ sets. c .before .set-passes .ensures (not-false _ (c .if1 .left)) sets (x .count)),
+          (family (now (x .needs)) (now (x .unions)) (now (x .arities))) (now (x .links)) (x .p) _ (c .before .before .before .loop .inv .1)
+          (c .before .set-passes .ensures (not-false _ (c .if1 .left))),
     )
 
 returns-2 : tie.Need-returns-2 Inv-loop μ-loop
 returns-2 c e =
-    let s = at-start (at-shared-slice-known4 (c .before .before)) in
     let l = c .before .loop in
-    let done : l .g ≡ s .args .count = omega (arith, l .inv .0, c .loop-test .left) in
-    sets-done _ _ _ _ _ _ (at-start (at-shared-slice-known4 (c .before .before)) .args .p) (s .pre .1 .0) (rw done at (l .inv .1))
+    let done : l .g ≡ 12 = omega (arith, l .inv .0, c .loop-test .left) in
+    sets-done _ _ _ _ (at-start (at-shared-slice-known4 (c .before .before)) .args .p) (at-start (at-shared-slice-known4 (c .before .before)) .pre .1 .0) (rw done at (l .inv .1))
 
 pub passes-spec : {M : Type 1} → statement M
 passes-spec =

@@ -2,12 +2,13 @@
 use denote.Ref.{now}
 use mathlib.Core.Path.{sym, _∙_}
 use mathlib.Core.Bool.{true≢false}
-use borrow.Author.Tests.{not-true, not-false}
+use borrow.Author.Tests.{not-true}
 use borrow.Author.Needs.{needs}
 use native.Mathlib.Omega.{arith}
 use Rattle.arrays.proofs.Agents.{small-arity, left-below}
 use Rattle.pairs.specs.Pairs.{Setting, setting}
 use Rattle.pairs.proofs.Laws.{agent-p, name-row, arg-row}
+use Rattle.pairs.proofs.ByDifference.{light}
 use Rattle.senders.specs.Sets.{Family, family}
 use Rattle.filter.proofs.Laws.{far-set, whole-set}
 use Rattle.filter.proofs.set_passes.Statement.{statement}
@@ -49,7 +50,7 @@ may-come-requires c κs =
     )
 
 returns : tie.Need-returns
-returns c e sets count all links q hq sends of =
+returns c e sets all links q hq sends of =
     let s = at-start (at-shared-slice-known4 (c .before .before)) in
     far-set (s .args .rule) (s .pre .0 .0) (s .pre .1 .0) (s .pre .1 .1) (kept s) (s .args .g) q hq sends (rw of at (all .covers q hq sends (hq .below)))
     (sym (c .before .may-come .ensures) ∙ not-true _ (c .if1 .taken))
@@ -65,15 +66,19 @@ figures-pass-requires c κs =
     let balances = g .lists .few in (
       omega (arith, few),
       λ m h. let a = small-arity (g .read) hp in (omega arith, omega (arith, few, room .unions), arg-row g hp agent m h),
-      λ k h. (
-        (omega (arith, few, room .needs, balances), room .half _ k),
-        g .weighed .half _ (left-below (g .read) hp agent) k h,
-        g .weighed .half _ (hp .below) k h,
-      ),
+      λ k h.
+          let left = left-below (g .read) hp agent in (
+            omega (arith, few, room .needs, balances, h),
+            room .half _ k,
+            g .weighed .half _ left k h .0,
+            g .weighed .small _ k left h,
+            g .weighed .half _ (hp .below) k h .0,
+            light g hp agent k h,
+          ),
     )
 
 returns-2 : tie.Need-returns-2
-returns-2 c e sets count all links q hq sends of =
+returns-2 c e sets all links q hq sends of =
     let s = at-start (at-shared-slice-known4 (at-shared-slice-known8 c)) in
     whole-set (s .args .rule) (s .pre .0 .0) (s .pre .1 .0) (s .pre .1 .1) (kept s) (s .args .g) q hq sends (rw of at (all .covers q hq sends (hq .below)))
     (sym (c .before .figures-pass .ensures) ∙ c .if2 .taken)
@@ -87,7 +92,7 @@ members-pass-requires c κs =
     ((s .pre .0 .0, s .pre .0 .2, s .pre .0 .3), s .pre .1)
 
 returns-4 : tie.Need-returns-4
-returns-4 c e sets count all links = c .members-pass .ensures e sets count (links (not-false _ (c .before .if3 .left)))
+returns-4 c e sets all links = c .members-pass .ensures e sets links
 
 pub set-passes-spec : {M : Type 1} → statement M
 set-passes-spec = tie.close (tie.spec may-come-requires returns figures-pass-requires returns-2 returns-3 members-pass-requires returns-4)

@@ -1,18 +1,14 @@
--- Two halves add up within 32 bits, and what goes of the receiver's weight is no more than it.
-use mathlib.Core.Path.{ap, _∙_}
-use Rattle.pairs.specs.Pairs.{goneOf}
+-- The need is worked out, and compared with what is given.
 use borrow.Author.Needs.{needs}
+use native.Mathlib.Omega.{arith}
 use Rattle.pairs.proofs.balance_holds.Statement.{statement}
 use Rattle.pairs.proofs.balance_holds.Tie as tie
 
+less-requires : tie.Need-less-requires
+less-requires c κs = (c .before .before .before .before .pre .0 .1, omega (arith, c .need .ensures .1))
+
 returns : tie.Need-returns
-returns c =
-    let less = c .gone .ensures .0 ∙ ap (goneOf (c .before .before .before .before .before .before .args .stays)) (c .before .load-at4 .ensures .0) in
-    rw (c .before .before .before .before .load-at .ensures .0, c .before .before .before .load-at2 .ensures .0, c .before .before .load-at3 .ensures .0, less)
+returns c = rw (c .less .ensures, c .before .need .ensures .0)
 
 pub balance-holds-spec : {M : Type 1} → statement M
-balance-holds-spec =
-    tie.close
-    (tie.spec
-    (λ c κs. search needs) (λ c κs. search needs) (λ c. search needs) (λ c κs. search needs) (λ c κs. search needs) (λ c κs. search needs)
-    (λ c. search needs) returns)
+balance-holds-spec = tie.close (tie.spec (λ c. search needs) (λ c. search needs) (λ c κs. search needs) less-requires returns)

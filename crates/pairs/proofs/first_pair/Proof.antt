@@ -1,14 +1,17 @@
--- Nothing is found so far, at each of the three loops; each way through them is one law of proofs/Search.
+-- Nothing is found so far, at each of the three loops; each way through them is one law of proofs/Search. The differences are the receiver's.
 use Prim.Native.Nat.{_-_}
-use mathlib.Core.Path.{_≡_, sym, _∙_, subst}
+use mathlib.Core.Path.{refl, sym, _∙_, subst}
 use mathlib.Core.Bool.{true}
+use mathlib.Core.List.{List}
 use denote.Ref.{now}
 use borrow.Author.Tests.{not-true, not-false}
 use Rattle.records.proofs.KindLaws.{receiver-is}
+use Rattle.arrays.proofs.Agents.{left-below}
 use Rattle.pairs.specs.declared.Side.{Side}
-use Rattle.pairs.specs.Pairs.{Setting, setting, Held, SmallFigure}
-use Rattle.pairs.proofs.Laws.{alive, name-row, half-pair, argument-rows}
-use Rattle.pairs.proofs.Search.{AtReceiver, AtSender, AtFigure, begin, row-passed, nothing-row, row, nowhere, skip-pair}
+use Rattle.pairs.specs.Pairs.{Setting, setting, Held, DifferencesOf, SmallFigure}
+use Rattle.pairs.proofs.Laws.{alive, name-row}
+use Rattle.pairs.proofs.ByDifference.{rooms-there, live-by, holds-by, figures-there}
+use Rattle.pairs.proofs.Search.{AtReceiver, AtSender, AtFigure, begin, nothing-row, row, nowhere, skip-pair}
 use Rattle.pairs.proofs.Search.{pair, figure-near, next-row, pass, next-pair, found, small-figure}
 use borrow.Author.Needs.{needs}
 use native.Mathlib.Omega.{arith}
@@ -16,126 +19,162 @@ use Rattle.pairs.proofs.first_pair.Statement.{statement}
 use Rattle.pairs.proofs.first_pair.Tie as tie
 
 abbrev Inv-balance : tie.InvT-balance
-Inv-balance rule file t balances rows loads bounds suspects nodes answer₀ i p count j q n₀ answer n =
-    AtFigure rule (setting file t balances rows loads bounds) p count q answer n
+Inv-balance rule file t balances rows loads bounds from nodes answer₀ i p count gives rooms j q n₀ answer n =
+    AtFigure rule (setting file t balances rows loads bounds) p count q answer n × DifferencesOf (setting file t balances rows loads bounds) p gives rooms
 
 abbrev μ-balance : tie.MeasureT-balance
-μ-balance rule file t balances rows loads bounds suspects nodes answer₀ i p count j q n₀ answer n = count - n
+μ-balance rule file t balances rows loads bounds from nodes answer₀ i p count gives rooms j q n₀ answer n = count - n
 
 abbrev Inv-sender : tie.InvT-sender
-Inv-sender rule file t balances rows loads bounds suspects nodes answer₀ i p count j₀ answer j =
-    AtSender rule (setting file t balances rows loads bounds) p count answer j
+Inv-sender rule file t balances rows loads bounds from nodes answer₀ i p count gives rooms j₀ answer j =
+    AtSender rule (setting file t balances rows loads bounds) p count answer j × DifferencesOf (setting file t balances rows loads bounds) p gives rooms
 
 abbrev μ-sender : tie.MeasureT-sender
-μ-sender rule file t balances rows loads bounds suspects nodes answer₀ i p count j₀ answer j = t .nodes - j
+μ-sender rule file t balances rows loads bounds from nodes answer₀ i p count gives rooms j₀ answer j = t .nodes - j
 
 abbrev Inv-receiver : tie.InvT-receiver
-Inv-receiver rule file t balances rows loads bounds suspects nodes answer₀ i₀ answer i = AtReceiver rule (setting file t balances rows loads bounds) answer i
+Inv-receiver rule file t balances rows loads bounds from nodes answer₀ i₀ answer i = AtReceiver rule (setting file t balances rows loads bounds) answer i
 
 abbrev μ-receiver : tie.MeasureT-receiver
-μ-receiver rule file t balances rows loads bounds suspects nodes answer₀ i₀ answer i = t .nodes - i
+μ-receiver rule file t balances rows loads bounds from nodes answer₀ i₀ answer i = t .nodes - i
 
 -- the setting, and the two sides, once their records are read
 module _ (c : tie.After-node-at Inv-balance μ-balance Inv-sender μ-sender Inv-receiver μ-receiver) where
   abbrev given : Setting
   given =
-      let x = c .before .before .before .before .before .before .before .before .before .before .args in
+      let x = c .before .before .before .before .before .before .before .args in
       setting (now (x .file)) (x .t) (x .balances) (now (x .rows)) (now (x .loads)) (now (x .bounds))
 
   abbrev receiver : Side
-  receiver = record { number = c .before .before .before .before .receiver .i; node = c .node-at .result }
+  receiver = record { number = c .before .before .receiver .i; node = c .node-at .result }
 
   held-receiver : Held given receiver
-  held-receiver = record { below = c .before .before .before .receiver-test .taken; is = c .node-at .ensures }
+  held-receiver = record { below = c .before .receiver-test .taken; is = c .node-at .ensures }
 
-abbrev first-read : tie.After-node-at2 Inv-balance μ-balance Inv-sender μ-sender Inv-receiver μ-receiver
-    → tie.After-node-at Inv-balance μ-balance Inv-sender μ-sender Inv-receiver μ-receiver
-first-read c = c .before .before .before .before .before
+-- a receiver with figures, before its senders
+module _ (c : tie.Else1 Inv-balance μ-balance Inv-sender μ-sender Inv-receiver μ-receiver) where
+  abbrev read : tie.After-node-at Inv-balance μ-balance Inv-sender μ-sender Inv-receiver μ-receiver
+  read = c .before .before
+
+  begun : AtSender (read .before .before .before .before .before .before .before .args .rule) (given read) (receiver read) (c .before .figures .result)
+      (read .before .before .receiver .answer) 0
+  begun = row (read .before .before .receiver .inv) (held-receiver read) (c .before .figures .ensures) (c .if1 .left)
+
+-- it, seen from its differences, and these, seen from the record of the sender
+abbrev entered : tie.After-rooms2 Inv-balance μ-balance Inv-sender μ-sender Inv-receiver μ-receiver → tie.Else1 Inv-balance μ-balance Inv-sender μ-sender Inv-receiver μ-receiver
+entered c = c .before .before .before .before .before .before
+
+abbrev lists : tie.After-node-at2 Inv-balance μ-balance Inv-sender μ-sender Inv-receiver μ-receiver → tie.After-rooms2 Inv-balance μ-balance Inv-sender μ-sender Inv-receiver μ-receiver
+lists c = c .before .before .before
 
 module _ (c : tie.After-node-at2 Inv-balance μ-balance Inv-sender μ-sender Inv-receiver μ-receiver) where
   abbrev sender : Side
   sender = record { number = c .before .before .sender .j; node = c .node-at2 .result }
 
-  held-sender : Held (given (first-read c)) sender
+  held-sender : Held (given (read (entered (lists c)))) sender
   held-sender = record { below = c .before .sender-test .taken; is = c .node-at2 .ensures }
 
--- a pair that was found to be live
-lives : (c : tie.Else3 Inv-balance μ-balance Inv-sender μ-sender Inv-receiver μ-receiver)
-    → let b = c .before .before in alive (given (first-read b)) (receiver (first-read b)) (sender b) ≡ true
-lives c = sym (c .before .live .ensures) ∙ not-false _ (c .if3 .left)
-
 -- stations
-abbrev at-shared-slice-known4 : tie.After-shared-slice-known6 Inv-balance μ-balance Inv-sender μ-sender Inv-receiver μ-receiver
-    → tie.After-shared-slice-known4 Inv-balance μ-balance Inv-sender μ-sender Inv-receiver μ-receiver
+abbrev at-live : tie.After-gives3 Inv-balance μ-balance Inv-sender μ-sender Inv-receiver μ-receiver → tie.After-live Inv-balance μ-balance Inv-sender μ-sender Inv-receiver μ-receiver
+at-live c = c .before .before .before .before
+
+abbrev at-sender : tie.After-live Inv-balance μ-balance Inv-sender μ-sender Inv-receiver μ-receiver → tie.At-sender Inv-balance μ-balance Inv-sender μ-sender Inv-receiver μ-receiver
+at-sender c = c .before .before .before .before
+
+abbrev at-is-resource : tie.At-sender Inv-balance μ-balance Inv-sender μ-sender Inv-receiver μ-receiver → tie.After-is-resource Inv-balance μ-balance Inv-sender μ-sender Inv-receiver μ-receiver
+at-is-resource c = c .before .before .before .before
+
+abbrev at-figures : tie.After-is-resource Inv-balance μ-balance Inv-sender μ-sender Inv-receiver μ-receiver → tie.After-figures Inv-balance μ-balance Inv-sender μ-sender Inv-receiver μ-receiver
+at-figures c = c .before .before .before .before
+
+abbrev at-shared-slice-known4 : tie.After-figures Inv-balance μ-balance Inv-sender μ-sender Inv-receiver μ-receiver → tie.After-shared-slice-known4 Inv-balance μ-balance Inv-sender μ-sender Inv-receiver μ-receiver
 at-shared-slice-known4 c = c .before .before .before .before
 
-abbrev at-start : tie.After-shared-slice-known4 Inv-balance μ-balance Inv-sender μ-sender Inv-receiver μ-receiver
-    → tie.Start Inv-balance μ-balance Inv-sender μ-sender Inv-receiver μ-receiver
+abbrev at-start : tie.After-shared-slice-known4 Inv-balance μ-balance Inv-sender μ-sender Inv-receiver μ-receiver → tie.Start Inv-balance μ-balance Inv-sender μ-sender Inv-receiver μ-receiver
 at-start c = c .before .before .before .before
 
 receiver-holds : tie.Need-receiver-holds Inv-balance μ-balance Inv-sender μ-sender Inv-receiver μ-receiver
 receiver-holds c =
-    begin (c .before .before .before .before .before .pre .0)
+    let pre = c .before .before .before .before .pre in
+    begin (pre .0) (pre .1) (pre .2)
 
 receiver-again : tie.Need-receiver-again Inv-balance μ-balance Inv-sender μ-sender Inv-receiver μ-receiver
 receiver-again c =
-    let low = c .before .before .receiver-test .taken in
-    row-passed (c .before .before .before .receiver .inv) low (at-start (at-shared-slice-known4 (c .before)) .pre .2 _ low (c .if1 .taken))
+    nothing-row {p = receiver (c .before .before)} (c .before .before .before .before .receiver .inv) (held-receiver (c .before .before)) (sym (c .before .figures .ensures) ∙ c .if1 .taken)
 
-receiver-again-2 : tie.Need-receiver-again-2 Inv-balance μ-balance Inv-sender μ-sender Inv-receiver μ-receiver
-receiver-again-2 c =
-    nothing-row {p = receiver (c .before .before)} (c .before .before .before .before .before .before .receiver .inv) (held-receiver (c .before .before))
-    (sym (c .before .figures .ensures) ∙ c .if2 .taken)
+differences-requires : tie.Need-differences-requires Inv-balance μ-balance Inv-sender μ-sender Inv-receiver μ-receiver
+differences-requires c κs =
+    let w = begun (c .before .before .before) in
+    let g = w .receiver .given in
+    let half = g .weighed .half in (
+      (refl, refl, g .lists .manyBounds, g .lists .few),
+      (half _ (w .reads .below), half _ (left-below (g .read) (w .reads) (receiver-is _ (w .receives) .0))),
+    )
 
 sender-holds : tie.Need-sender-holds Inv-balance μ-balance Inv-sender μ-sender Inv-receiver μ-receiver
-sender-holds c =
-    row (c .before .before .before .before .before .before .receiver .inv) (held-receiver (c .before .before)) (c .before .figures .ensures) (c .if2 .left)
+sender-holds c = (
+  begun (entered c),
+  record {
+    manyGives = c .before .before .differences .kept .0;
+    manyRooms = c .before .before .differences .kept .1 .0;
+    are = rw (c .before .before .before .is-resource .ensures) at (c .before .before .differences .ensures);
+  },
+)
 
 live-requires : tie.Need-live-requires Inv-balance μ-balance Inv-sender μ-sender Inv-receiver μ-receiver
 live-requires c κs =
-    let w = c .before .before .sender .inv in
+    let w = c .before .before .before .sender .inv .0 in
     let g = w .receiver .given in
-    let half = g .weighed .half in
-    let few = g .lists .few in
-    let many = g .lists .manyBounds in (
-      (omega arith, half _ (w .reads .below), half _ (c .before .sender-test .taken)),
-      (receiver-is _ (w .receives) .0, name-row g (w .reads), name-row g (held-sender c)),
+    let q = held-sender (c .before) in (
+      rooms-there g (w .reads) (w .receives) (c .before .before .before .sender .inv .1) _ (q .below),
+      (receiver-is _ (w .receives) .0, name-row g (w .reads), name-row g q),
     )
 
 sender-again : tie.Need-sender-again Inv-balance μ-balance Inv-sender μ-sender Inv-receiver μ-receiver
 sender-again c =
-    skip-pair {q = sender (c .before .before)} (c .before .before .before .before .sender .inv) (held-sender (c .before .before))
-    (sym (c .before .live .ensures) ∙ not-true _ (c .if3 .taken))
+    let w = c .before .before .before .before .before .sender .inv .0 in
+    let d = c .before .before .before .before .before .sender .inv .1 in
+    let q = held-sender (c .before .before .before) in (
+      skip-pair {q = sender (c .before .before .before)} w q
+          (sym (live-by (w .receiver .given) (w .reads) (w .receives) d q) ∙ sym (c .before .live .ensures) ∙ not-true _ (c .if2 .taken)),
+      d,
+    )
 
 balance-holds : tie.Need-balance-holds Inv-balance μ-balance Inv-sender μ-sender Inv-receiver μ-receiver
-balance-holds c = pair (c .before .before .before .before .sender .inv) (held-sender (c .before .before)) (lives c)
-
-figure-holds-requires : tie.Need-figure-holds-requires
-    Inv-balance
-    μ-balance
-    Inv-sender
-    μ-sender
-    Inv-receiver
-    μ-receiver
-figure-holds-requires c κs =
-    let i = c .before .balance .inv in
-    let w = i .sender in
-    let g = w .receiver .given in
-    let n = rw (w .many) at (c .balance-test .taken) in (
-      λ e. argument-rows g (w .reads) (w .receives) (i .reads) (figure-near i) _ (rw e at n),
-      λ e. half-pair g (w .reads) (w .receives) (i .reads) (figure-near i) _ (rw e at n),
+balance-holds c =
+    let w = c .before .before .before .before .before .sender .inv .0 in
+    let d = c .before .before .before .before .before .sender .inv .1 in
+    let q = held-sender (c .before .before .before) in (
+      pair w q (sym (live-by (w .receiver .given) (w .reads) (w .receives) d q) ∙ sym (c .before .live .ensures) ∙ not-false _ (c .if2 .left)),
+      d,
     )
+
+figure-holds-requires : tie.Need-figure-holds-requires Inv-balance μ-balance Inv-sender μ-sender Inv-receiver μ-receiver
+figure-holds-requires c κs =
+    let i = c .before .before .balance .inv .0 in
+    let w = i .sender in
+    let there = figures-there (w .receiver .given) (w .reads) (w .receives) (c .before .before .balance .inv .1) (i .reads) (figure-near i) (at-start (at-shared-slice-known4 (at-figures (at-is-resource (at-sender (at-live c))))) .args .rule) in
+    let n = rw (w .many) at (c .before .balance-test .taken) in
+    (λ e. there .0 e _ (rw e at n), λ e. there .1 e _ (rw e at n))
+
+add-n : tie.Need-add-n Inv-balance μ-balance Inv-sender μ-sender Inv-receiver μ-receiver
+add-n c = record { fits = omega (arith, small-figure (c .before .before .before .before .balance .inv .0) (c .before .before .before .balance-test .taken)) }
 
 balance-again : tie.Need-balance-again Inv-balance μ-balance Inv-sender μ-sender Inv-receiver μ-receiver
 balance-again c =
-    pass (c .before .before .before .balance .inv) (c .before .before .balance-test .taken)
-    (sym (c .before .figure-holds .ensures) ∙ not-false _ (c .if4 .left))
+    let i = c .before .before .before .before .balance .inv .0 in
+    let w = i .sender in
+    let low = c .before .before .before .balance-test .taken in
+    let same =
+    holds-by (w .receiver .given) (w .reads) (w .receives) (c .before .before .before .before .balance .inv .1) (i .reads) (figure-near i) (at-start (at-shared-slice-known4 (at-figures (at-is-resource (at-sender (at-live (c .before .before)))))) .args .rule) (c .before .before .before .before .balance .n)
+    (rw (w .many) at low) in
+    (pass i low (sym same ∙ sym (c .before .figure-holds .ensures) ∙ not-false _ (c .if3 .left)), c .before .before .before .before .balance .inv .1)
 
 sender-again-2 : tie.Need-sender-again-2 Inv-balance μ-balance Inv-sender μ-sender Inv-receiver μ-receiver
-sender-again-2 c = next-pair (c .before .balance .inv) (omega arith)
+sender-again-2 c = (next-pair (c .before .balance .inv .0) (omega arith), c .before .balance .inv .1)
 
-receiver-again-3 : tie.Need-receiver-again-3 Inv-balance μ-balance Inv-sender μ-sender Inv-receiver μ-receiver
-receiver-again-3 c = next-row (c .before .sender .inv) (omega arith)
+receiver-again-2 : tie.Need-receiver-again-2 Inv-balance μ-balance Inv-sender μ-sender Inv-receiver μ-receiver
+receiver-again-2 c = next-row (c .before .sender .inv .0) (omega arith)
 
 returns : tie.Need-returns Inv-balance μ-balance Inv-sender μ-sender Inv-receiver μ-receiver
 returns c =
@@ -144,16 +183,20 @@ returns c =
 
 returns-2 : tie.Need-returns-2 Inv-balance μ-balance Inv-sender μ-sender Inv-receiver μ-receiver
 returns-2 c =
-    let l = c .before .before .before .balance .inv in
-    let k = c .before .before .balance-test .taken in
-    (found l k (sym (c .before .figure-holds .ensures) ∙ not-true _ (c .if4 .taken)), small-figure l k)
+    let i = c .before .before .before .before .balance .inv .0 in
+    let w = i .sender in
+    let low = c .before .before .before .balance-test .taken in
+    let same =
+    holds-by (w .receiver .given) (w .reads) (w .receives) (c .before .before .before .before .balance .inv .1) (i .reads) (figure-near i) (at-start (at-shared-slice-known4 (at-figures (at-is-resource (at-sender (at-live (c .before .before)))))) .args .rule) (c .before .before .before .before .balance .n)
+    (rw (w .many) at low) in
+    (found i low (sym same ∙ sym (c .before .figure-holds .ensures) ∙ not-true _ (c .if3 .taken)), small-figure i low)
 
 pub first-pair-spec : {M : Type 1} → statement M
 first-pair-spec =
     tie.close
     (tie.spec
-    Inv-balance μ-balance Inv-sender μ-sender Inv-receiver μ-receiver receiver-holds (λ c. search needs) (λ c. search needs) (λ c. search needs)
-    receiver-again (λ c κs. search needs) (λ c κs. search needs) (λ c. search needs) (λ c. search needs) receiver-again-2 sender-holds
-    (λ c κs. search needs) live-requires (λ c. search needs) (λ c. search needs) sender-again balance-holds figure-holds-requires
-    (λ c. search needs) (λ c. search needs) balance-again (λ c. search needs) (λ c. search needs) sender-again-2 (λ c. search needs)
-    (λ c. search needs) receiver-again-3 returns returns-2)
+    Inv-balance μ-balance Inv-sender μ-sender Inv-receiver μ-receiver receiver-holds (λ c κs. search needs) (λ c κs. search needs)
+    (λ c. search needs) (λ c. search needs) receiver-again (λ c. search needs) (λ c. search needs) (λ c κs. search needs) differences-requires
+    sender-holds (λ c κs. search needs) (λ c. search needs) live-requires (λ c. search needs) (λ c. search needs) sender-again balance-holds
+    (λ c. search needs) figure-holds-requires add-n (λ c. search needs) balance-again (λ c. search needs) (λ c. search needs) sender-again-2
+    (λ c. search needs) (λ c. search needs) receiver-again-2 returns returns-2)

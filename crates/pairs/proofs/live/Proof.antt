@@ -10,11 +10,11 @@ meet-requires c κs = c .before .before .before .pre .1
 returns : tie.Need-returns
 returns c = rw (sym (c .before .meet .ensures) ∙ not-true _ (c .if1 .taken))
 
-fit-both-requires : tie.Need-fit-both-requires
-fit-both-requires c κs = c .before .before .before .before .before .pre .0
+fits-beside-requires : tie.Need-fits-beside-requires
+fits-beside-requires c κs = c .before .before .before .before .before .pre .0
 
 returns-2 : tie.Need-returns-2
-returns-2 c = rw (sym (c .before .before .meet .ensures) ∙ not-false _ (c .before .if1 .left)) (c .fit-both .ensures)
+returns-2 c = rw (sym (c .before .before .meet .ensures) ∙ not-false _ (c .before .if1 .left)) (c .fits-beside .ensures)
 
 pub live-spec : {M : Type 1} → statement M
-live-spec = tie.close (tie.spec meet-requires returns fit-both-requires returns-2)
+live-spec = tie.close (tie.spec meet-requires returns fits-beside-requires returns-2)

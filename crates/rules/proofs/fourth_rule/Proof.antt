@@ -9,7 +9,7 @@ use borrow.Author.Needs.{needs}
 use Rattle.rules.proofs.fourth_rule.Statement.{statement}
 use Rattle.rules.proofs.fourth_rule.Tie as tie
 
-found : (c : tie.After-first-pair) → let x = c .before .before .before .before .before .before .before .args in
+found : (c : tie.After-first-pair) → let x = c .before .before .before .before .before .before .args in
     placed 4 (c .first-pair .result) ≡ check4 (arrayOf (now (x .file)) (x .t)) (listTable (now (x .rows)) (now (x .loads)) (now (x .bounds)) (x .balances))
 found c = c .first-pair .ensures .0 ∙ pairs-four _ _
 
@@ -23,4 +23,4 @@ pub fourth-rule-spec : {M : Type 1} → statement M
 fourth-rule-spec =
     tie.close
     (tie.spec
-    (λ c κs. search needs) (λ c. search needs) (λ c κs. search needs) (λ c. search needs) (λ c. search needs) returns returns-2)
+    (λ c κs. search needs) (λ c κs. search needs) (λ c. search needs) (λ c. search needs) returns returns-2)

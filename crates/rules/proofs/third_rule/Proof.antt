@@ -10,12 +10,12 @@ use native.Mathlib.Omega.{arith}
 use Rattle.rules.proofs.third_rule.Statement.{statement}
 use Rattle.rules.proofs.third_rule.Tie as tie
 
-found : (c : tie.After-first-pair) → let x = c .before .before .before .before .before .before .before .args in
+found : (c : tie.After-first-pair) → let x = c .before .before .before .before .before .before .args in
     placed 3 (c .first-pair .result) ≡ check3 (arrayOf (now (x .file)) (x .t)) (listTable (now (x .rows)) (now (x .loads)) (now (x .bounds)) (x .balances))
 found c = c .first-pair .ensures .0 ∙ pairs-three _ _
 
-add-t16 : tie.Need-add-t16
-add-t16 c =
+add-t13 : tie.Need-add-t13
+add-t13 c =
     let small = subst SmallFigure (c .before .p .given .1) (c .before .before .before .first-pair .ensures .1) in
     record { fits = omega arith }
 
@@ -29,4 +29,4 @@ pub third-rule-spec : {M : Type 1} → statement M
 third-rule-spec =
     tie.close
     (tie.spec
-    (λ c κs. search needs) (λ c. search needs) (λ c κs. search needs) (λ c. search needs) (λ c. search needs) add-t16 returns returns-2)
+    (λ c κs. search needs) (λ c κs. search needs) (λ c. search needs) (λ c. search needs) add-t13 returns returns-2)

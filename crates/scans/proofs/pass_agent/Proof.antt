@@ -84,7 +84,7 @@ returns-3 c e =
     let marked = sym sent ∙ not-false _ (c .before .before .before .before .before .before .before .if3 .left) in
     let down = c .before .before .before .before .hand-down in
     out-passes (p .0 .1) (x .r) (fit .0) (now (x .file)) (x .t) (p .0 .0) (p .1 .0) refl (fit .1) (p .1 .2) (fit .2) (down .last .0) (down .last .1 .0)
-    (down .ensures .1) out marked (down .ensures .0)
+    (down .ensures .1 e) out marked (down .ensures .0)
 
 count-args-requires : tie.Need-count-args-requires
 count-args-requires c κs =
@@ -117,7 +117,7 @@ returns-4 c e =
     let row = c .before .before .before .before .before .args-row in
     let down = c .before .before .before .before .hand-down2 in
     in-passes (p .0 .1) (x .r) (fit .0) (now (x .file)) (x .t) (p .0 .0) (p .1 .0) refl (fit .1) (p .1 .2) (fit .2) (down .last .0) (down .last .1 .0)
-    (down .ensures .1) receives (row .result) (counted .last .0) (row .ensures) (counted .ensures) (down .ensures .0)
+    (down .ensures .1 e) receives (row .result) (counted .last .0) (row .ensures) (counted .ensures) (down .ensures .0)
 
 pub pass-agent-spec : {M : Type 1} → statement M
 pass-agent-spec =

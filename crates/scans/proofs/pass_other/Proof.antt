@@ -8,7 +8,7 @@ use borrow.Author.Needs.{needs}
 use borrow.Author.Tests.{not-false}
 use Rattle.laws.proofs.Search.{and-split}
 use Rattle.records.specs.Record.{nodeOf}
-use Rattle.records.specs.Kinds.{isStop}
+use Rattle.records.specs.Kinds.{isStop, isNewNode}
 use Rattle.records.proofs.KindLaws.{rest-branches}
 use Rattle.scans.specs.Pass.{recordFits, RestZero}
 use Rattle.scans.proofs.Node.{left-open, right-open, stop-passes, new-passes, two-passes}
@@ -32,6 +32,14 @@ tested c = c .before .before
 goes : (c : tie.Else2) → isStop (nodeOf (begun (tested c) .args .r)) ≡ false
 goes c = sym (c .before .is-stop .ensures) ∙ c .if2 .left
 
+-- and no new
+binds-none : (c : tie.Else3) → isNewNode (nodeOf (begun (tested (c .before .before)) .args .r)) ≡ false
+binds-none c = sym (c .before .is-new .ensures) ∙ c .if3 .left
+
+-- its left child is counted
+abbrev parted : tie.Else4 → tie.Else3
+parted c = c .before .before .before .before .before .before .before .before
+
 -- stations
 abbrev at-if1 : tie.Then3 → tie.Else1
 at-if1 c = c .before .before .before .before
@@ -50,15 +58,6 @@ at-hand-down c = c .before .before .before .before
 
 abbrev at-slice-known4 : tie.After-hand-down → tie.After-slice-known4
 at-slice-known4 c = c .before .before .before .before
-
-abbrev at-reach2 : tie.After-hand-down-arg5 → tie.After-reach2
-at-reach2 c = c .before .before .before .before
-
-abbrev at-if3-too : tie.After-reach2 → tie.Else3
-at-if3-too c = c .before .before .before .before
-
-abbrev at-hand-down-arg5 : tie.After-slice-known9 → tie.After-hand-down-arg5
-at-hand-down-arg5 c = c .before .before .before .before
 
 rest-zero-requires : tie.Need-rest-zero-requires
 rest-zero-requires c κs = let here = c .before .before .before .before .before .before .pre .0 .1 .here in omega arith
@@ -104,7 +103,7 @@ returns-3 c e =
     let row = c .before .before .before .before .before .name-row in
     let down = c .before .before .before .before .hand-down in
     new-passes (p .0 .1) (x .r) (fit .0) (now (x .file)) (x .t) (p .0 .0) (p .1 .0) refl (fit .1) (p .1 .2) (goes place) new
-    (row .result) (down .last .0) (down .last .1 .0) (counted .last .0) (row .ensures) (down .ensures .0) (down .ensures .1) (counted .ensures)
+    (row .result) (down .last .0) (down .last .1 .0) (counted .last .0) (row .ensures) (down .ensures .0) (down .ensures .1 e) (counted .ensures)
 
 hand-down-requires-2 : tie.Need-hand-down-requires-2
 hand-down-requires-2 c κs =
@@ -112,29 +111,32 @@ hand-down-requires-2 c κs =
     let start = begun (tested place) in
     left-open (start .pre .0 .1) (start .args .r) (tests (tested place) .0) (goes place)
 
+returns-4 : tie.Need-returns-4
+returns-4 c e = absurd (false≢true e)
+
 hand-down-requires-3 : tie.Need-hand-down-requires-3
 hand-down-requires-3 c κs =
-    let place = at-if3-too (at-reach2 (c .before)) .before .before in
+    let other = parted (c .before .before) in
+    let place = other .before .before in
     let start = begun (tested place) in
     let r = start .args .r in
-    let opens = at-if3-too (at-reach2 (c .before)) .before .is-new .ensures in
-    let double = rest-branches r (start .pre .1 .2) (goes place) (sym opens ∙ at-if3-too (at-reach2 (c .before)) .if3 .left) in
-    let down = c .before .before .before .before .before .before .hand-down2 in
-    right-open (start .pre .0 .1) r (tests (tested place) .0) double (down .last .0) (down .last .1 .0) (down .kept .0) (down .kept .1 .0) (down .ensures .1)
+    let double = rest-branches r (start .pre .1 .2) (goes place) (binds-none other) in
+    let down = c .before .before .before .before .before .before .before .hand-down2 in
+    right-open (start .pre .0 .1) r (tests (tested place) .0) double (down .last .0) (down .last .1 .0) (down .kept .0) (down .kept .1 .0)
 
-returns-4 : tie.Need-returns-4
-returns-4 c e =
-    let place = at-if3-too (at-reach2 (at-hand-down-arg5 (c .before .before))) .before .before in
+returns-5 : tie.Need-returns-5
+returns-5 c e =
+    let counted = c .before .before .before .before .before .before .before in
+    let other = parted counted in
+    let place = other .before .before in
     let x = begun (tested place) .args in
     let p = begun (tested place) .pre in
     let fit = tests (tested place) in
-    let opens = at-if3-too (at-reach2 (at-hand-down-arg5 (c .before .before))) .before .is-new .ensures in
-    let other = sym opens ∙ at-if3-too (at-reach2 (at-hand-down-arg5 (c .before .before))) .if3 .left in
-    let left = at-reach2 (at-hand-down-arg5 (c .before .before)) .before .hand-down2 in
+    let left = counted .before .before .before .before .before .hand-down2 in
     let right = c .before .before .before .before .hand-down3 in
-    two-passes (p .0 .1) (x .r) (fit .0) (now (x .file)) (x .t) (p .0 .0) (p .1 .0) refl (fit .1) (p .1 .2) (goes place) other
+    two-passes (p .0 .1) (x .r) (fit .0) (now (x .file)) (x .t) (p .0 .0) (p .1 .0) refl (fit .1) (p .1 .2) (goes place) (binds-none other)
     (left .last .0) (left .last .1 .0) (right .last .0) (right .last .1 .0) (left .ensures .0) (right .ensures .0)
-    (left .kept .1 .0) (left .ensures .1) (right .ensures .1)
+    (left .kept .1 .0) (left .ensures .1 (not-false _ (counted .if4 .left))) (right .ensures .1 e)
 
 pub pass-other-spec : {M : Type 1} → statement M
 pass-other-spec =
@@ -142,4 +144,5 @@ pass-other-spec =
     (tie.spec
     (λ c. search needs) (λ c. search needs) (λ c. search needs) (λ c κs. search needs) rest-zero-requires returns (λ c κs. search needs)
     returns-2 (λ c κs. search needs) count-requires name-row-requires hand-down-requires (λ c. search needs) (λ c. search needs)
-    (λ c. search needs) returns-3 hand-down-requires-2 hand-down-requires-3 (λ c. search needs) (λ c. search needs) returns-4)
+    (λ c. search needs) returns-3 hand-down-requires-2 (λ c. search needs) (λ c. search needs) returns-4 hand-down-requires-3 (λ c. search needs)
+    (λ c. search needs) returns-5)

@@ -134,6 +134,6 @@ pub scan-spec : {M : Type 1} → statement M
 scan-spec =
     tie.close
     (tie.spec
-    Inv-loop μ-loop loop-holds (λ c. search needs) slice-read-if2 same-length same-length-2 same-length-3 returns pass-node-requires
-    same-length-4 same-length-5 same-length-6 returns-2 (λ c. search needs) (λ c. search needs) loop-again bound-once-requires same-length-7
-    same-length-8 same-length-9 returns-3)
+    Inv-loop μ-loop loop-holds slice-read-if2 same-length same-length-2 same-length-3 returns pass-node-requires same-length-4 same-length-5
+    same-length-6 returns-2 (λ c. search needs) (λ c. search needs) loop-again bound-once-requires same-length-7 same-length-8 same-length-9
+    returns-3)

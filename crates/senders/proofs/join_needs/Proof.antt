@@ -5,7 +5,8 @@ use denote.Ref.{now}
 use lib.ListN.{length, set}
 use borrow.Author.Count.{below-more}
 use Rattle.loads.specs.Loads.{entryIndex, loadIn}
-use Rattle.senders.specs.Sets.{needOf, NeedsGrow}
+use Rattle.pairs.specs.Pairs.{needOf}
+use Rattle.senders.specs.Sets.{NeedsGrow}
 use Rattle.senders.proofs.Laws.{needs-same, needs-trans, needs-set, entry-here}
 use borrow.Author.Needs.{needs}
 use native.Mathlib.Omega.{arith}
@@ -13,46 +14,29 @@ use Rattle.senders.proofs.join_needs.Statement.{statement}
 use Rattle.senders.proofs.join_needs.Tie as tie
 
 abbrev Inv-loop : tie.InvT-loop
-Inv-loop needs₀ g balances loads left own k₀ needs k =
-    NeedsGrow needs₀ needs × ((j : ℕ) → j < k → (loadIn loads left j + 65536) - loadIn loads own j ≤ loadIn needs g j)
+Inv-loop needs₀ g balances loads left own k₀ needs k = NeedsGrow needs₀ needs × ((j : ℕ) → j < k → needOf loads own left j ≤ loadIn needs g j)
 
 abbrev μ-loop : tie.MeasureT-loop
 μ-loop needs₀ g balances loads left own k₀ needs k = balances - k
 
--- the start, seen from the loop, and the loop, seen from the second load
+-- the start, seen from the loop, and the loop, seen from the need
 abbrev begun : tie.At-loop Inv-loop μ-loop → tie.Start Inv-loop μ-loop
 begun c = c .before .before .before
 
-abbrev looped : tie.After-load-at2 Inv-loop μ-loop → tie.At-loop Inv-loop μ-loop
-looped c = c .before .before .before
+abbrev looped : tie.After-need Inv-loop μ-loop → tie.At-loop Inv-loop μ-loop
+looped c = c .before .before
 
 -- balance k has an entry of set g
-there : (c : tie.After-load-at2 Inv-loop μ-loop) → entryIndex (begun (looped c) .args .g) (looped c .loop .k) < length (looped c .loop .needs)
+there : (c : tie.After-need Inv-loop μ-loop) → entryIndex (begun (looped c) .args .g) (looped c .loop .k) < length (looped c .loop .needs)
 there c =
     let p = begun (looped c) .pre in
-    omega (arith, p .0, p .2, p .3 .few, looped c .loop .inv .0 .size, c .before .before .loop-test .taken)
+    omega (arith, p .0, p .2, p .3 .few, looped c .loop .inv .0 .size, c .before .loop-test .taken)
 
 loop-holds : tie.Need-loop-holds Inv-loop μ-loop
 loop-holds c = (needs-same _, λ j h. absurd (omega arith))
 
-load-at-requires : tie.Need-load-at-requires Inv-loop μ-loop
-load-at-requires c κs =
-    let p = begun (c .before) .pre .3 in
-    let left = p .left _ (c .loop-test .taken) in
-    let own = p .own _ (c .loop-test .taken) in
-    (omega (arith, left .0, own .0), omega (arith, left .1, own .1))
-
-load-at-requires-2 : tie.Need-load-at-requires-2 Inv-loop μ-loop
-load-at-requires-2 c κs =
-    let p = begun (c .before .before) .pre .3 in
-    let left = p .left _ (c .before .loop-test .taken) in
-    let own = p .own _ (c .before .loop-test .taken) in
-    (omega (arith, left .0, own .0), omega (arith, left .1, own .1))
-
-sub-need : tie.Need-sub-need Inv-loop μ-loop
-sub-need c =
-    let own = begun (looped c) .pre .3 .own _ (c .before .before .loop-test .taken) in
-    omega (arith, own .1, c .before .load-at .ensures .0, c .load-at2 .ensures .0)
+need-requires : tie.Need-need-requires Inv-loop μ-loop
+need-requires c κs = begun (c .before) .pre .3 .there _ (c .loop-test .taken)
 
 slice-read-greater : tie.Need-slice-read-greater Inv-loop μ-loop
 slice-read-greater c = there (c .before)
@@ -60,9 +44,7 @@ slice-read-greater c = there (c .before)
 greater-requires : tie.Need-greater-requires Inv-loop μ-loop
 greater-requires c κs =
     let l = looped (c .before) in
-    let p = begun l .pre in
-    let left = p .3 .left _ (c .before .before .before .loop-test .taken) in
-    (l .loop .inv .0 .half (p .1) _ _, omega (arith, left .1, c .before .before .load-at .ensures .0))
+    (l .loop .inv .0 .half (begun l .pre .1) _ _, omega (arith, c .before .need .ensures .1))
 
 slice-write-needs : tie.Need-slice-write-needs Inv-loop μ-loop
 slice-write-needs c = there (c .before .before)
@@ -74,9 +56,9 @@ loop-again c =
     let l = looped at .loop in
     let r = c .greater in
     let grow = needs-set (l .needs) (x .g) (l .k) (r .result) (there at) (r .ensures .0) (r .ensures .2) in
-    let need = rw (at .before .load-at .ensures .0, at .load-at2 .ensures .0) at (r .ensures .1) in (
+    let need = rw (at .need .ensures .0) at (r .ensures .1) in (
       needs-trans (l .inv .0) grow,
-      below-more (λ j. needOf (now (x .loads)) (x .q) j ≤ loadIn (set (l .needs) (entryIndex (x .g) (l .k)) (r .result)) (x .g) j) (l .k)
+      below-more (λ j. needOf (now (x .loads)) (x .q .number) (x .q .node .left) j ≤ loadIn (set (l .needs) (entryIndex (x .g) (l .k)) (r .result)) (x .g) j) (l .k)
           (λ j h. le-trans (l .inv .1 j h) (grow .more _ j))
           (rw (entry-here (l .needs) (x .g) (l .k) (r .result) (there at) (r .ensures .0) (r .ensures .2)) need),
     )
@@ -91,6 +73,6 @@ pub join-needs-spec : {M : Type 1} → statement M
 join-needs-spec =
     tie.close
     (tie.spec
-    Inv-loop μ-loop loop-holds load-at-requires (λ c. search needs) load-at-requires-2 sub-need (λ c. search needs) (λ c. search needs)
-    (λ c. search needs) slice-read-greater greater-requires (λ c. search needs) (λ c. search needs) (λ c. search needs) slice-write-needs
-    (λ c. search needs) (λ c. search needs) loop-again same-length returns)
+    Inv-loop μ-loop loop-holds need-requires (λ c. search needs) (λ c. search needs) (λ c. search needs) slice-read-greater greater-requires
+    (λ c. search needs) (λ c. search needs) (λ c. search needs) slice-write-needs (λ c. search needs) (λ c. search needs) loop-again same-length
+    returns)
