@@ -1,7 +1,7 @@
 //! Designs in which every receiver, but one that a stop follows, has senders that would break a rule with it if the
 //! pair were live: what a set of senders needs or sends together decides nothing. In `defeat`, `defeat3` and
-//! `defeat_sparse`, which are those of the trial, all bounds are 2 and such a sender is above the bound alone; in the
-//! others all bounds are 3 and it is within the bound alone.
+//! `defeat_sparse`, which are those of the trial, all bounds are 2 and such a sender is above the bound alone; in
+//! `defeat_sparse` only the first channel has some. In the others all bounds are 3 and it is within the bound alone.
 
 use super::{files, of_eight, ones, over_channels, own_rows, receivers_of_eight, two_chains, Files, ALONE};
 use crate::files::{Agent, Balance, Record, IN, OUT};
