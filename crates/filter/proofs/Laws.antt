@@ -52,7 +52,9 @@ module _ (rule : ℕ) {S : Setting} (given : Given S) {p : Side} (hp : Held S p)
         | inl three ↦
             rw three (true-every _ _ (λ m h.
             inside-trans _ _ _ _ _ _ (covers .sent three m (rw (← arities given hp rp hq (live-near S p q l)) h)) (every-true _ _ (rw three at e) m h)))
-        | inr four ↦ rw four (true-every _ _ (λ k h. le-leb _ _ (met k h (covers .needs four k h) (ltb-false _ _ (not-true _ (every-true _ _ (rw four at e) k h))))))
+        | inr four ↦
+            rw four (true-every _ _ (λ k h.
+            le-leb _ _ (met k h (covers .needs four k h) (ltb-false _ _ (not-true _ (every-true _ _ (rw four at e) k h))))))
       ])
     where
       met : (k : ℕ) → k < S .n → needOf (S .loads) (q .number) (q .node .left) k ≤ loadIn (F .needs) g k
@@ -69,7 +71,8 @@ module _ (rule : ℕ) {S : Setting} (given : Given S) {p : Side} (hp : Held S p)
 module _ (rule : ℕ) (S : Setting) (F : Family) (links : List ℕ) (p : Side) where
   -- the sets below n, whichever sets the lists stand for
   abbrev pub SetsSound : ℕ → Type 0
-  SetsSound n = (sets : ℕ → ℕ) → Collected rule S F sets (S .t .nodes) → Linked (S .f) (S .t) sets links → (g : ℕ) → g < n → SetSound rule S sets p g
+  SetsSound n = (sets : ℕ → ℕ) → Collected rule S F sets (S .t .nodes) → Linked (S .f) (S .t) sets links
+      → (g : ℕ) → g < n → SetSound rule S sets p g
 
   pub sets-more : (n : ℕ) → SetsSound n
       → ((sets : ℕ → ℕ) → Collected rule S F sets (S .t .nodes) → Linked (S .f) (S .t) sets links → SetSound rule S sets p n) → SetsSound (n + 1)

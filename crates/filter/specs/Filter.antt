@@ -39,11 +39,14 @@ figuresPass rule n needs unions rows loads g p =
 abbrev pub ArgRows : List ℕ → List ℕ → ℕ → Record → Type 0
 ArgRows unions rows g r = (m : ℕ) → m < r .arity → (m < 8) × HasRow unions (sentRow g m) × HasRow rows (getD (r .args) m 0)
 
--- what is needed and what is given may be compared
-abbrev pub NeedRows : ℕ → List ℕ → List ℕ → ℕ → ℕ → ℕ → Type 0
-NeedRows n needs loads g i l =
-    (k : ℕ) → k < n → (entryIndex g k < length needs) × (loadIn needs g k < 1073741824) × (entryIndex l k < length loads) × (loadIn loads l k < 134217728)
+-- what is needed and what is given in balance k may be compared
+abbrev pub NeedRow : List ℕ → List ℕ → ℕ → ℕ → ℕ → ℕ → Type 0
+NeedRow needs loads g i l k =
+    (entryIndex g k < length needs) × (loadIn needs g k < 1073741824) × (entryIndex l k < length loads) × (loadIn loads l k < 134217728)
     × (entryIndex i k < length loads) × (loadIn loads i k < 65536)
+
+abbrev pub NeedRows : ℕ → List ℕ → List ℕ → ℕ → ℕ → ℕ → Type 0
+NeedRows n needs loads g i l = (k : ℕ) → k < n → NeedRow needs loads g i l k
 
 -- ---- senders that break nothing with receiver p
 

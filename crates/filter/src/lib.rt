@@ -202,7 +202,8 @@ fn passes(
     p: Side,
 ) -> bool
     requires { ⌜ Given (setting (now file) t balances (now rows) (now loads) (now bounds)) ⌝ }
-    requires { ⌜ Gathered rule (setting (now file) t balances (now rows) (now loads) (now bounds)) (family (now needs) (now unions) (now arities)) (now links) ⌝ }
+    requires { ⌜ Gathered rule (setting (now file) t balances (now rows) (now loads) (now bounds)) (family (now needs) (now unions) (now arities))
+        (now links) ⌝ }
     requires { ⌜ Reads (now file) t (p .number) (p .node) × (isReceiver (nodeOf (p .node)) ≡ true) ⌝ }
     ensures { λ b. ⌜ (b ≡ true → Sound rule (setting (now (file .entry)) t balances (now (rows .entry)) (now (loads .entry)) (now (bounds .entry))) p) ⌝ }
 {
@@ -248,7 +249,8 @@ fn node_passes(
     i: usize,
 ) -> bool
     requires { ⌜ Given (setting (now file) t balances (now rows) (now loads) (now bounds)) × (i < t .nodes) ⌝ }
-    requires { ⌜ Gathered rule (setting (now file) t balances (now rows) (now loads) (now bounds)) (family (now needs) (now unions) (now arities)) (now links) ⌝ }
+    requires { ⌜ Gathered rule (setting (now file) t balances (now rows) (now loads) (now bounds)) (family (now needs) (now unions) (now arities))
+        (now links) ⌝ }
     ensures { λ b. ⌜ (b ≡ true → pairsAt rule (arrayOf (now (file .entry)) t)
         (listTable (now (rows .entry)) (now (loads .entry)) (now (bounds .entry)) balances) i ≡ clear) ⌝ }
 {
@@ -294,7 +296,8 @@ fn sift(
 ) -> usize
     requires { ⌜ Given (setting (now file) t balances (now rows) (now loads) (now bounds)) × (from ≤ t .nodes)
         × Screened rule (arrayOf (now file) t) (listTable (now rows) (now loads) (now bounds) balances) from ⌝ }
-    requires { ⌜ Gathered rule (setting (now file) t balances (now rows) (now loads) (now bounds)) (family (now needs) (now unions) (now arities)) (now links) ⌝ }
+    requires { ⌜ Gathered rule (setting (now file) t balances (now rows) (now loads) (now bounds)) (family (now needs) (now unions) (now arities))
+        (now links) ⌝ }
     ensures { λ n. ⌜ (n ≤ t .nodes) × Screened rule (arrayOf (now (file .entry)) t)
         (listTable (now (rows .entry)) (now (loads .entry)) (now (bounds .entry)) balances) n ⌝ }
 {

@@ -1,7 +1,7 @@
 -- Liveness and rule 4 by the differences of a receiver are those by sums.
 use Prim.Native.Nat.{ℕ, _+_, _-_, _≤_, _<_}
 use native.Mathlib.Omega.{arith}
-use mathlib.Core.Path.{_≡_, refl, ap, ap₂, _∙_}
+use mathlib.Core.Path.{_≡_, ap, ap₂, _∙_}
 use mathlib.Core.Logic.{inl, inr}
 use mathlib.Core.Bool.{Bool, true, false, cond, not, _&&_}
 use mathlib.Core.List.{List}
@@ -10,8 +10,7 @@ use lib.ListN.{length, getD, set}
 use lib.Seq.{getD-set-same, getD-set-other}
 use borrow.Author.Count.{below-more}
 use borrow.Author.Tests.{ltb-true, ltb-false, leb-true, leb-false, lt-ltb, le-ltb, le-leb}
-use Rattle.laws.specs.Search.{every}
-use Rattle.laws.proofs.Search.{decided, same-test, every-same, and-split}
+use Rattle.laws.proofs.Search.{decided, same-test, every-same}
 use Rattle.model.specs.Tree.{isAgent}
 use Rattle.model.specs.Memory.{isOut, isResource}
 use Rattle.records.specs.Record.{nodeOf}
@@ -20,9 +19,9 @@ use Rattle.records.proofs.KindLaws.{receiver-is, sender-is}
 use Rattle.arrays.proofs.Agents.{left-below, node-is}
 use Rattle.loads.specs.Loads.{loadIn}
 use Rattle.pairs.specs.declared.Side.{Side}
-use Rattle.pairs.specs.Pairs.{Setting, Given, Held, goneOf, bearsBoth, balanceHolds, holdsAt, allHold, breaksPair, meets}
-use Rattle.pairs.specs.Pairs.{giveOf, needOf, roomOf, capped, Differences, DifferencesOf, fitsBeside, givesTo, liveBy, holdsBy, allHoldBy}
-use Rattle.pairs.specs.Pairs.{Small, NeedThere, Gives, Rooms, Figures}
+use Rattle.pairs.specs.Pairs.{Setting, Given, Held, goneOf, bearsBoth, balanceHolds, holdsAt, allHold, breaksPair}
+use Rattle.pairs.specs.Pairs.{giveOf, roomOf, capped, Differences, DifferencesOf, fitsBeside, givesTo, liveBy, holdsBy, allHoldBy}
+use Rattle.pairs.specs.Pairs.{Small, NeedThere, Rooms, Figures}
 use Rattle.pairs.proofs.Laws.{near, alive, meet-sends, argument-rows}
 
 -- ---- filling the lists

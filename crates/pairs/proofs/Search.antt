@@ -4,6 +4,7 @@ use native.Mathlib.Omega.{arith}
 use mathlib.Core.Path.{_≡_, refl, sym, ap, _∙_}
 use mathlib.Core.Logic.{inl, inr}
 use mathlib.Core.Bool.{Bool, true, false, cond, not, _&&_}
+use mathlib.Core.List.{List}
 use lib.Dec.{eqb}
 use borrow.Author.Tests.{not-false}
 use Rattle.laws.specs.Search.{clear, hit, test, under, first}
@@ -17,8 +18,9 @@ use Rattle.pairs.specs.declared.Side.{Side}
 use Rattle.pairs.specs.declared.Place.{Place}
 use Rattle.pairs.specs.declared.Place.the-variants.{Nowhere, At}
 use Rattle.pairs.specs.Pairs.{Setting, Given, Held, arrayIn, tableIn, placeOf, atPair, pairsAt, pairsOf, placed, figuresOf, holdsAt, allHold}
-use Rattle.pairs.specs.Pairs.{Screened, breaksPair}
+use Rattle.pairs.specs.Pairs.{Screened, breaksPair, DifferencesOf, holdsBy, ArgumentRows, Gives}
 use Rattle.pairs.proofs.Laws.{near, alive, live-near, no-receiver, pair-is, figure-is}
+use Rattle.pairs.proofs.ByDifference.{holds-by, figures-there}
 
 -- ---- the searches at a pair, at a receiver and at a figure
 
@@ -182,6 +184,21 @@ module _ {rule : ℕ} {S : Setting} where
   module _ {p : Side} {count : ℕ} {q : Side} {answer : Place} {n : ℕ} (h : AtFigure rule S p count q answer n) where
     pub figure-near : near S p q ≡ true
     figure-near = live-near S p q (h .lives)
+
+    -- the rule at the figure, by differences
+    module _ {gives rooms : List ℕ} (d : DifferencesOf S p gives rooms) (l : n < count) where
+      w : AtSender rule S p count answer (q .number)
+      w = h .sender
+
+      pub figure-by : holdsBy rule (S .rows) (S .loads) gives p q n ≡ holdsAt rule (S .rows) (S .loads) p q n
+      figure-by = holds-by (w .receiver .given) (w .reads) (w .receives) d (h .reads) figure-near rule n (rw (w .many) at l)
+
+      pub figure-there : (eqb rule 3 ≡ true → ArgumentRows (S .rows) p q n)
+          × (eqb rule 3 ≡ false → Gives (S .loads) gives (q .number) (q .node .left) n)
+      figure-there =
+          let there = figures-there (w .receiver .given) (w .reads) (w .receives) d (h .reads) figure-near rule in
+          let k = rw (w .many) at l in
+          (λ e. there .0 e n (rw e at k), λ e. there .1 e n (rw e at k))
 
     -- the rule holds here
     pub pass : n < count → holdsAt rule (S .rows) (S .loads) p q n ≡ true → AtFigure rule S p count q answer (n + 1)

@@ -25,7 +25,9 @@ abbrev at-start : tie.After-struct-known Inv-loop μ-loop → tie.Start Inv-loop
 at-start c = c .before .before .before .before
 
 loop-holds : tie.Need-loop-holds Inv-loop μ-loop
-loop-holds c = (omega arith, rw (c .before .before .pre .2) (counted-none (replicate 256 0) (adds binds (now (c .before .before .args .file)) (c .before .before .args .t))))
+loop-holds c =
+    let s = c .before .before in
+    (omega arith, rw (s .pre .2) (counted-none (replicate 256 0) (adds binds (now (s .args .file)) (s .args .t))))
 
 count-names-requires : tie.Need-count-names-requires Inv-loop μ-loop
 count-names-requires c κs =

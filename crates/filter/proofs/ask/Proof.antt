@@ -19,10 +19,14 @@ abbrev at-start : tie.After-shared-slice-known4 → tie.Start
 at-start c = c .before .before .before .before
 
 gather-requires : tie.Need-gather-requires
-gather-requires c κs = ((now (c .before .before .before .before .before .before .before .before .args .bounds), c .before .before .before .before .before .before .before .before .pre .0), (empty-room, search needs))
+gather-requires c κs =
+    let s = at-start (at-shared-slice-known4 c) in
+    ((now (s .args .bounds), s .pre .0), (empty-room, search needs))
 
 sift-requires : tie.Need-sift-requires
-sift-requires c κs = (at-start (at-shared-slice-known4 (at-links (at-arities2 (c .before)))) .pre, c .before .before .before .before .before .before .before .before .gather .ensures (now (at-start (at-shared-slice-known4 (at-links (at-arities2 (c .before)))) .args .bounds)))
+sift-requires c κs =
+    let s = at-start (at-shared-slice-known4 (at-links (at-arities2 (c .before)))) in
+    (s .pre, c .before .before .before .before .before .before .before .before .gather .ensures (now (s .args .bounds)))
 
 returns : tie.Need-returns
 returns c = c .sift .ensures

@@ -1,5 +1,4 @@
 -- Nothing lies below node 0.
-use borrow.Author.Needs.{needs}
 use native.Mathlib.Omega.{arith}
 use Rattle.filter.proofs.first_suspect.Statement.{statement}
 use Rattle.filter.proofs.first_suspect.Tie as tie

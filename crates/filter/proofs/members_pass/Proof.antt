@@ -6,6 +6,7 @@ use mathlib.Core.Bool.{true≢false}
 use borrow.Author.Needs.{needs}
 use native.Mathlib.Omega.{arith}
 use Rattle.arrays.proofs.Agents.{left-below}
+use Rattle.pairs.specs.declared.Side.{Side}
 use Rattle.pairs.specs.Pairs.{Setting, Held, setting, DifferencesOf}
 use Rattle.pairs.proofs.Laws.{agent-p, name-row}
 use Rattle.pairs.proofs.ByDifference.{rooms-there, figures-there, breaks-by}
@@ -25,25 +26,33 @@ given s =
     let x = s .args in
     setting (now (x .file)) (x .t) (x .balances) (now (x .rows)) (now (x .loads)) (now (x .bounds))
 
--- stations
-abbrev at-is-resource : tie.After-shared-slice-known6 Inv-loop μ-loop → tie.After-is-resource Inv-loop μ-loop
-at-is-resource c = c .before .before .before .before
+-- the start, seen from the loop by way of the differences, and the loop, seen from a sender's record
+abbrev at-is-resource : tie.At-loop Inv-loop μ-loop → tie.After-is-resource Inv-loop μ-loop
+at-is-resource c = c .before .before .before .before .before .before
 
-abbrev at-shared-slice-known4 : tie.After-is-resource Inv-loop μ-loop → tie.After-shared-slice-known4 Inv-loop μ-loop
-at-shared-slice-known4 c = c .before .before .before .before
+abbrev begun : tie.After-is-resource Inv-loop μ-loop → tie.Start Inv-loop μ-loop
+begun c = c .before .before .before .before .before .before .before .before
 
-abbrev at-start : tie.After-shared-slice-known4 Inv-loop μ-loop → tie.Start Inv-loop μ-loop
-at-start c = c .before .before .before .before
+abbrev looped : tie.After-node-at Inv-loop μ-loop → tie.At-loop Inv-loop μ-loop
+looped c = c .before .before .before
 
-abbrev at-shared-slice-known6 : tie.Else1 Inv-loop μ-loop → tie.After-shared-slice-known6 Inv-loop μ-loop
-at-shared-slice-known6 c = c .before .before .before .before
+-- the sender
+module _ (c : tie.After-node-at Inv-loop μ-loop) where
+  abbrev start : tie.Start Inv-loop μ-loop
+  start = begun (at-is-resource (looped c))
 
-abbrev at-if1 : tie.After-breaks Inv-loop μ-loop → tie.Else1 Inv-loop μ-loop
-at-if1 c = c .before .before .before .before
+  abbrev sender : Side
+  sender = record { number = looped c .loop .next - 1; node = c .node-at .result }
+
+  held : Held (given start) sender
+  held = record { below = omega (arith, looped c .loop .inv .0 .0, c .before .if1 .left); is = c .node-at .ensures }
+
+  small : sender .number < 1024
+  small = omega (arith, held .below, start .pre .0 .0 .read .formed .fewNodes)
 
 differences-requires : tie.Need-differences-requires Inv-loop μ-loop
 differences-requires c κs =
-    let pre = c .before .before .before .before .before .before .before .before .pre in
+    let pre = begun c .pre in
     let g = pre .0 .0 in
     let hp = pre .1 .0 in
     let half = g .weighed .half in
@@ -51,12 +60,13 @@ differences-requires c κs =
 
 loop-holds : tie.Need-loop-holds Inv-loop μ-loop
 loop-holds c =
-    let s = at-start (at-shared-slice-known4 (at-is-resource (c .before))) in (
+    let d = c .before .before .before .before in
+    let s = begun (d .before) in (
       rw (c .number-index .ensures .0) (members-begun (s .args .rule) (given s) (s .args .p) (s .args .g) (now (s .args .links))),
       record {
-        manyGives = c .before .before .before .before .differences .kept .0;
-        manyRooms = c .before .before .before .before .differences .kept .1 .0;
-        are = rw (c .before .before .before .before .before .is-resource .ensures) at (c .before .before .before .before .differences .ensures);
+        manyGives = d .differences .kept .0;
+        manyRooms = d .differences .kept .1 .0;
+        are = rw (d .before .is-resource .ensures) at (d .differences .ensures);
       },
     )
 
@@ -65,48 +75,43 @@ returns c e = absurd (true≢false (sym e))
 
 node-at-requires : tie.Need-node-at-requires Inv-loop μ-loop
 node-at-requires c κs =
-    let r = at-start (at-shared-slice-known4 (at-is-resource (at-shared-slice-known6 c))) .pre .0 .0 .read in
-    (omega (arith, r .fills), omega (arith, c .before .before .loop .inv .0 .0, c .if1 .left))
+    let l = c .before .before in
+    (omega (arith, begun (at-is-resource l) .pre .0 .0 .read .fills), omega (arith, l .loop .inv .0 .0, c .if1 .left))
 
 breaks-requires : tie.Need-breaks-requires Inv-loop μ-loop
 breaks-requires c κs =
-    let s = at-start (at-shared-slice-known4 (at-is-resource (at-shared-slice-known6 (c .before .before .before)))) in
-    let g = s .pre .0 .0 in
-    let hp = s .pre .1 .0 in
-    let rp = s .pre .1 .1 in
-    let d = c .before .before .before .before .before .loop .inv .1 in
-    let low : c .before .before .before .before .before .loop .next - 1 < s .args .t .nodes = omega (arith, c .before .before .before .before .before .loop .inv .0 .0, c .before .before .before .if1 .left) in
-    let hq : Held (given s) record { number = c .before .before .before .before .before .loop .next - 1; node = c .before .before .node-at .result } = record { below = low; is = c .before .before .node-at .ensures } in (
-      rooms-there g hp rp d _ low,
-      ((agent-p g hp rp hq, name-row g hp, name-row g hq), λ l. figures-there g hp rp d hq l (s .args .rule)),
+    let q = c .before .before in
+    let g = start q .pre .0 .0 in
+    let hp = start q .pre .1 .0 in
+    let rp = start q .pre .1 .1 in
+    let d = looped q .loop .inv .1 in (
+      rooms-there g hp rp d _ (held q .below),
+      ((agent-p g hp rp (held q), name-row g hp, name-row g (held q)), λ l. figures-there g hp rp d (held q) l (start q .args .rule)),
     )
 
 returns-2 : tie.Need-returns-2 Inv-loop μ-loop
 returns-2 c e = absurd (true≢false (sym e))
 
+mul-number-index-2 : tie.Need-mul-number-index-2 Inv-loop μ-loop
+mul-number-index-2 c = record { fits = omega (arith, small (c .before .before .before .before)) }
+
 shared-slice-read-number-index-2 : tie.Need-shared-slice-read-number-index-2 Inv-loop μ-loop
 shared-slice-read-number-index-2 c =
-    let pre = at-start (at-shared-slice-known4 (at-is-resource (at-shared-slice-known6 (at-if1 (c .before .before))))) .pre in
-    omega (arith, c .before .before .before .before .before .before .before .before .loop .inv .0 .0, c .before .before .before .before .before .before .if1 .left, pre .0 .1, pre .0 .0 .read .formed .fewNodes)
-
-mul-number-index-2 : tie.Need-mul-number-index-2 Inv-loop μ-loop
-mul-number-index-2 c =
-    let few = at-start (at-shared-slice-known4 (at-is-resource (at-shared-slice-known6 (at-if1 (c .before))))) .pre .0 .0 .read .formed .fewNodes in
-    record { fits = omega (arith, c .before .before .before .before .before .before .before .loop .inv .0 .0, c .before .before .before .before .before .if1 .left, few) }
+    let q = c .before .before .before .before .before in
+    omega (arith, small q, start q .pre .0 .1)
 
 loop-less : tie.Need-loop-less Inv-loop μ-loop
 loop-less c = omega (arith, c .before .before .before .before .before .before .before .if1 .left)
 
 loop-again : tie.Need-loop-again Inv-loop μ-loop
 loop-again c =
-    let s = at-start (at-shared-slice-known4 (at-is-resource (at-shared-slice-known6 (at-if1 (c .before .before .before))))) in
-    let l = at-if1 (c .before .before .before) .before .before .loop in
-    let low : l .next - 1 < s .args .t .nodes = omega (arith, l .inv .0 .0, c .before .before .before .before .before .before .before .if1 .left) in
-    let hq : Held (given s) record { number = l .next - 1; node = c .before .before .before .before .before .before .node-at .result } = record { below = low; is = c .before .before .before .before .before .before .node-at .ensures } in
-    let same = breaks-by (s .pre .0 .0) (s .pre .1 .0) (s .pre .1 .1) (l .inv .1) hq (s .args .rule) in (
+    let q = c .before .before .before .before .before .before in
+    let s = start q in
+    let l = looped q .loop in
+    let same = breaks-by (s .pre .0 .0) (s .pre .1 .0) (s .pre .1 .1) (l .inv .1) (held q) (s .args .rule) in (
       rw (c .number-index2 .ensures .0)
           (members-more (s .args .rule) (given s) (s .args .p) (s .args .g) (now (s .args .links)) (l .end) (l .next) (l .next - 1)
-          (omega (arith, c .before .before .before .before .before .before .before .before .loop-test .taken)) (l .inv .0) (omega (arith, low)) (c .before .before .before .before .before .before .node-at .result) (c .before .before .before .before .before .before .node-at .ensures)
+          (omega (arith, q .before .before .loop-test .taken)) (l .inv .0) (omega (arith, held q .below)) (q .node-at .result) (q .node-at .ensures)
           (sym same ∙ sym (c .before .before .before .breaks .ensures) ∙ c .before .before .if2 .left)),
       l .inv .1,
     )

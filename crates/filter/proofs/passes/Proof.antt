@@ -2,7 +2,7 @@
 use Prim.Native.Nat.{_≤_, _-_}
 use denote.Ref.{now}
 use mathlib.Core.Path.{_≡_, sym}
-use mathlib.Core.Bool.{true, true≢false}
+use mathlib.Core.Bool.{true≢false}
 use borrow.Author.Tests.{not-false}
 use borrow.Author.Needs.{needs}
 use native.Mathlib.Omega.{arith}
@@ -35,7 +35,7 @@ loop-holds c = (search needs, λ sets all links g h. absurd (omega (arith, h)))
 set-passes-requires : tie.Need-set-passes-requires Inv-loop μ-loop
 set-passes-requires c κs =
     let s = at-start (at-shared-slice-known4 (c .before .before)) .pre in
-    ((s .0, s .1 .0 .collected .room, s .1 .0 .linked .size, c .loop-test .taken), s .1 .1)
+    ((s .0, s .1 .0 .collected .room, s .1 .0 .linked .size, omega (arith, c .loop-test .taken)), s .1 .1)
 
 returns : tie.Need-returns Inv-loop μ-loop
 returns c e = absurd (true≢false (sym e))
@@ -53,7 +53,8 @@ returns-2 : tie.Need-returns-2 Inv-loop μ-loop
 returns-2 c e =
     let l = c .before .loop in
     let done : l .g ≡ 12 = omega (arith, l .inv .0, c .loop-test .left) in
-    sets-done _ _ _ _ (at-start (at-shared-slice-known4 (c .before .before)) .args .p) (at-start (at-shared-slice-known4 (c .before .before)) .pre .1 .0) (rw done at (l .inv .1))
+    let s = at-start (at-shared-slice-known4 (c .before .before)) in
+    sets-done _ _ _ _ (s .args .p) (s .pre .1 .0) (rw done at (l .inv .1))
 
 pub passes-spec : {M : Type 1} → statement M
 passes-spec =

@@ -1,7 +1,6 @@
 -- By the test.
 use borrow.Author.Tests.{lt-ltb, le-ltb}
 use native.Mathlib.Omega.{arith}
-use mathlib.Core.Path.{refl}
 use Rattle.pairs.proofs.cap.Statement.{statement}
 use Rattle.pairs.proofs.cap.Tie as tie
 

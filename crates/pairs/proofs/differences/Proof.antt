@@ -39,7 +39,9 @@ add-difference : tie.Need-add-difference Inv-loop μ-loop
 add-difference c = omega (arith, c .gone .ensures .1, c .before .load-at .ensures .1)
 
 load-at-requires-2 : tie.Need-load-at-requires-2 Inv-loop μ-loop
-load-at-requires-2 c κs = c .before .before .before .before .before .before .before .before .pre .1 .1 (c .before .before .before .loop .k) (c .before .before .loop-test .taken)
+load-at-requires-2 c κs =
+    let test = c .before .before in
+    at-start (at-shared-slice-known2 c) .pre .1 .1 (test .before .loop .k) (test .loop-test .taken)
 
 loop-again : tie.Need-loop-again Inv-loop μ-loop
 loop-again c =
@@ -47,13 +49,14 @@ loop-again c =
     let pre = at-start (at-shared-slice-known2 (at-gone (c .before))) .pre .0 in
     let l = c .before .before .before .before .before .before .before .before .loop in
     let low = c .before .before .before .before .before .before .before .loop-test .taken in
-    let weight = c .before .before .before .before .before .before .load-at .ensures .0 in (
+    let weight = c .before .before .before .before .before .before .load-at .ensures .0 in
+    let gone = c .before .before .before .before .before .gone .ensures .0 ∙ ap (goneOf (x .stays)) weight in (
       omega (arith, low),
       length-set (l .gives) _ _ ∙ l .inv .1,
       length-set (l .rooms) _ _ ∙ l .inv .2,
       differences-more (now (x .loads)) (now (x .bounds)) (x .stays) (x .i) (x .l) (l .k) (l .gives) (l .rooms) (omega (arith, l .inv .1, low, pre .3))
           (omega (arith, l .inv .2, low, pre .3)) (l .inv .3) (c .before .before .before .difference .result) (c .difference2 .result)
-          (c .before .before .before .difference .ensures ∙ ap₂ (λ (a b : ℕ). (65536 + a) - b) (c .before .before .before .before .before .gone .ensures .0 ∙ ap (goneOf (x .stays)) weight) (c .before .before .before .before .load-at2 .ensures .0))
+          (c .before .before .before .difference .ensures ∙ ap₂ (λ (a b : ℕ). (65536 + a) - b) gone (c .before .before .before .before .load-at2 .ensures .0))
           (c .difference2 .ensures ∙ ap₂ (λ (a b : ℕ). (a + 1) - b) (c .before .cap .ensures .0) weight),
     )
 

@@ -1,18 +1,16 @@
 -- Nothing is found so far, at each of the three loops; each way through them is one law of proofs/Search. The differences are the receiver's.
 use Prim.Native.Nat.{_-_}
 use mathlib.Core.Path.{refl, sym, _∙_, subst}
-use mathlib.Core.Bool.{true}
-use mathlib.Core.List.{List}
 use denote.Ref.{now}
 use borrow.Author.Tests.{not-true, not-false}
 use Rattle.records.proofs.KindLaws.{receiver-is}
 use Rattle.arrays.proofs.Agents.{left-below}
 use Rattle.pairs.specs.declared.Side.{Side}
 use Rattle.pairs.specs.Pairs.{Setting, setting, Held, DifferencesOf, SmallFigure}
-use Rattle.pairs.proofs.Laws.{alive, name-row}
-use Rattle.pairs.proofs.ByDifference.{rooms-there, live-by, holds-by, figures-there}
+use Rattle.pairs.proofs.Laws.{name-row}
+use Rattle.pairs.proofs.ByDifference.{rooms-there, live-by}
 use Rattle.pairs.proofs.Search.{AtReceiver, AtSender, AtFigure, begin, nothing-row, row, nowhere, skip-pair}
-use Rattle.pairs.proofs.Search.{pair, figure-near, next-row, pass, next-pair, found, small-figure}
+use Rattle.pairs.proofs.Search.{pair, figure-by, figure-there, next-row, pass, next-pair, found, small-figure}
 use borrow.Author.Needs.{needs}
 use native.Mathlib.Omega.{arith}
 use Rattle.pairs.proofs.first_pair.Statement.{statement}
@@ -61,10 +59,12 @@ module _ (c : tie.Else1 Inv-balance μ-balance Inv-sender μ-sender Inv-receiver
   begun = row (read .before .before .receiver .inv) (held-receiver read) (c .before .figures .ensures) (c .if1 .left)
 
 -- it, seen from its differences, and these, seen from the record of the sender
-abbrev entered : tie.After-rooms2 Inv-balance μ-balance Inv-sender μ-sender Inv-receiver μ-receiver → tie.Else1 Inv-balance μ-balance Inv-sender μ-sender Inv-receiver μ-receiver
+abbrev entered : tie.After-rooms2 Inv-balance μ-balance Inv-sender μ-sender Inv-receiver μ-receiver
+    → tie.Else1 Inv-balance μ-balance Inv-sender μ-sender Inv-receiver μ-receiver
 entered c = c .before .before .before .before .before .before
 
-abbrev lists : tie.After-node-at2 Inv-balance μ-balance Inv-sender μ-sender Inv-receiver μ-receiver → tie.After-rooms2 Inv-balance μ-balance Inv-sender μ-sender Inv-receiver μ-receiver
+abbrev lists : tie.After-node-at2 Inv-balance μ-balance Inv-sender μ-sender Inv-receiver μ-receiver
+    → tie.After-rooms2 Inv-balance μ-balance Inv-sender μ-sender Inv-receiver μ-receiver
 lists c = c .before .before .before
 
 module _ (c : tie.After-node-at2 Inv-balance μ-balance Inv-sender μ-sender Inv-receiver μ-receiver) where
@@ -74,25 +74,6 @@ module _ (c : tie.After-node-at2 Inv-balance μ-balance Inv-sender μ-sender Inv
   held-sender : Held (given (read (entered (lists c)))) sender
   held-sender = record { below = c .before .sender-test .taken; is = c .node-at2 .ensures }
 
--- stations
-abbrev at-live : tie.After-gives3 Inv-balance μ-balance Inv-sender μ-sender Inv-receiver μ-receiver → tie.After-live Inv-balance μ-balance Inv-sender μ-sender Inv-receiver μ-receiver
-at-live c = c .before .before .before .before
-
-abbrev at-sender : tie.After-live Inv-balance μ-balance Inv-sender μ-sender Inv-receiver μ-receiver → tie.At-sender Inv-balance μ-balance Inv-sender μ-sender Inv-receiver μ-receiver
-at-sender c = c .before .before .before .before
-
-abbrev at-is-resource : tie.At-sender Inv-balance μ-balance Inv-sender μ-sender Inv-receiver μ-receiver → tie.After-is-resource Inv-balance μ-balance Inv-sender μ-sender Inv-receiver μ-receiver
-at-is-resource c = c .before .before .before .before
-
-abbrev at-figures : tie.After-is-resource Inv-balance μ-balance Inv-sender μ-sender Inv-receiver μ-receiver → tie.After-figures Inv-balance μ-balance Inv-sender μ-sender Inv-receiver μ-receiver
-at-figures c = c .before .before .before .before
-
-abbrev at-shared-slice-known4 : tie.After-figures Inv-balance μ-balance Inv-sender μ-sender Inv-receiver μ-receiver → tie.After-shared-slice-known4 Inv-balance μ-balance Inv-sender μ-sender Inv-receiver μ-receiver
-at-shared-slice-known4 c = c .before .before .before .before
-
-abbrev at-start : tie.After-shared-slice-known4 Inv-balance μ-balance Inv-sender μ-sender Inv-receiver μ-receiver → tie.Start Inv-balance μ-balance Inv-sender μ-sender Inv-receiver μ-receiver
-at-start c = c .before .before .before .before
-
 receiver-holds : tie.Need-receiver-holds Inv-balance μ-balance Inv-sender μ-sender Inv-receiver μ-receiver
 receiver-holds c =
     let pre = c .before .before .before .before .pre in
@@ -100,7 +81,8 @@ receiver-holds c =
 
 receiver-again : tie.Need-receiver-again Inv-balance μ-balance Inv-sender μ-sender Inv-receiver μ-receiver
 receiver-again c =
-    nothing-row {p = receiver (c .before .before)} (c .before .before .before .before .receiver .inv) (held-receiver (c .before .before)) (sym (c .before .figures .ensures) ∙ c .if1 .taken)
+    nothing-row {p = receiver (c .before .before)} (c .before .before .before .before .receiver .inv) (held-receiver (c .before .before))
+    (sym (c .before .figures .ensures) ∙ c .if1 .taken)
 
 differences-requires : tie.Need-differences-requires Inv-balance μ-balance Inv-sender μ-sender Inv-receiver μ-receiver
 differences-requires c κs =
@@ -151,24 +133,19 @@ balance-holds c =
 
 figure-holds-requires : tie.Need-figure-holds-requires Inv-balance μ-balance Inv-sender μ-sender Inv-receiver μ-receiver
 figure-holds-requires c κs =
-    let i = c .before .before .balance .inv .0 in
-    let w = i .sender in
-    let there = figures-there (w .receiver .given) (w .reads) (w .receives) (c .before .before .balance .inv .1) (i .reads) (figure-near i) (at-start (at-shared-slice-known4 (at-figures (at-is-resource (at-sender (at-live c))))) .args .rule) in
-    let n = rw (w .many) at (c .before .balance-test .taken) in
-    (λ e. there .0 e _ (rw e at n), λ e. there .1 e _ (rw e at n))
+    let b = c .before .before .balance .inv in
+    figure-there (b .0) (b .1) (c .before .balance-test .taken)
 
 add-n : tie.Need-add-n Inv-balance μ-balance Inv-sender μ-sender Inv-receiver μ-receiver
-add-n c = record { fits = omega (arith, small-figure (c .before .before .before .before .balance .inv .0) (c .before .before .before .balance-test .taken)) }
+add-n c =
+    let small = small-figure (c .before .before .before .before .balance .inv .0) (c .before .before .before .balance-test .taken) in
+    record { fits = omega (arith, small) }
 
 balance-again : tie.Need-balance-again Inv-balance μ-balance Inv-sender μ-sender Inv-receiver μ-receiver
 balance-again c =
-    let i = c .before .before .before .before .balance .inv .0 in
-    let w = i .sender in
+    let b = c .before .before .before .before .balance .inv in
     let low = c .before .before .before .balance-test .taken in
-    let same =
-    holds-by (w .receiver .given) (w .reads) (w .receives) (c .before .before .before .before .balance .inv .1) (i .reads) (figure-near i) (at-start (at-shared-slice-known4 (at-figures (at-is-resource (at-sender (at-live (c .before .before)))))) .args .rule) (c .before .before .before .before .balance .n)
-    (rw (w .many) at low) in
-    (pass i low (sym same ∙ sym (c .before .figure-holds .ensures) ∙ not-false _ (c .if3 .left)), c .before .before .before .before .balance .inv .1)
+    (pass (b .0) low (sym (figure-by (b .0) (b .1) low) ∙ sym (c .before .figure-holds .ensures) ∙ not-false _ (c .if3 .left)), b .1)
 
 sender-again-2 : tie.Need-sender-again-2 Inv-balance μ-balance Inv-sender μ-sender Inv-receiver μ-receiver
 sender-again-2 c = (next-pair (c .before .balance .inv .0) (omega arith), c .before .balance .inv .1)
@@ -183,13 +160,11 @@ returns c =
 
 returns-2 : tie.Need-returns-2 Inv-balance μ-balance Inv-sender μ-sender Inv-receiver μ-receiver
 returns-2 c =
-    let i = c .before .before .before .before .balance .inv .0 in
-    let w = i .sender in
-    let low = c .before .before .before .balance-test .taken in
-    let same =
-    holds-by (w .receiver .given) (w .reads) (w .receives) (c .before .before .before .before .balance .inv .1) (i .reads) (figure-near i) (at-start (at-shared-slice-known4 (at-figures (at-is-resource (at-sender (at-live (c .before .before)))))) .args .rule) (c .before .before .before .before .balance .n)
-    (rw (w .many) at low) in
-    (found i low (sym same ∙ sym (c .before .figure-holds .ensures) ∙ not-true _ (c .if3 .taken)), small-figure i low)
+    let b = c .before .before .before .before .balance .inv in
+    let low = c .before .before .before .balance-test .taken in (
+      found (b .0) low (sym (figure-by (b .0) (b .1) low) ∙ sym (c .before .figure-holds .ensures) ∙ not-true _ (c .if3 .taken)),
+      small-figure (b .0) low,
+    )
 
 pub first-pair-spec : {M : Type 1} → statement M
 first-pair-spec =

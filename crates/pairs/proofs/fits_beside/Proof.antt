@@ -23,13 +23,16 @@ load-at-requires : tie.Need-load-at-requires Inv-loop μ-loop
 load-at-requires c κs = c .before .before .before .before .pre .1 (c .before .loop .k) (c .loop-test .taken) .1
 
 less-requires : tie.Need-less-requires Inv-loop μ-loop
-less-requires c κs = (c .before .load-at .ensures .1, c .before .before .before .before .before .before .pre .1 (c .before .before .before .loop .k) (c .before .before .loop-test .taken) .0)
+less-requires c κs =
+    let test = c .before .before in
+    (c .before .load-at .ensures .1, test .before .before .before .before .pre .1 (test .before .loop .k) (test .loop-test .taken) .0)
 
 loop-again : tie.Need-loop-again Inv-loop μ-loop
 loop-again c =
     let l = c .before .before .before .before .loop in
     let x = c .before .before .before .before .before .before .before .args in
-    (search needs, rw (l .inv .1, c .less .ensures, c .before .before .load-at .ensures .0) (sym (every-step (fitsBeside (now (x .loads)) (now (x .rooms)) (x .j)) (l .k))))
+    let fits = fitsBeside (now (x .loads)) (now (x .rooms)) (x .j) in
+    (search needs, rw (l .inv .1, c .less .ensures, c .before .before .load-at .ensures .0) (sym (every-step fits (l .k))))
 
 returns : tie.Need-returns Inv-loop μ-loop
 returns c =

@@ -1,7 +1,6 @@
 -- The senders below node i are gathered: node i is put into the set that is chosen for it.
-use Prim.Native.Nat.{ℕ, _≤_, _-_}
+use Prim.Native.Nat.{ℕ, _≤_, _<_, _-_}
 use mathlib.Core.Path.{_≡_, refl, sym, ap, _∙_}
-use denote.Ref.{now}
 use lib.ListN.{length, length-replicate}
 use Rattle.senders.specs.Sets.{family}
 use Rattle.senders.proofs.Laws.{askable}
@@ -18,27 +17,24 @@ Inv-loop rule fine needs₀ unions₀ arities₀ links₀ file t balances rows l
 abbrev μ-loop : tie.MeasureT-loop
 μ-loop rule fine needs₀ unions₀ arities₀ links₀ file t balances rows loads seen₀ i₀ needs unions arities links seen i = t .nodes - i
 
--- stations
-abbrev at-slice-known4 : tie.At-loop Inv-loop μ-loop → tie.After-slice-known4 Inv-loop μ-loop
-at-slice-known4 c = c .before .before .before .before
+-- the start, seen from the loop; the loop, seen from the set; the set, seen from the sender that was joined, and that, seen from the link's test
+abbrev begun : tie.At-loop Inv-loop μ-loop → tie.Start Inv-loop μ-loop
+begun c = c .before .before .before .before .before .before .before .before
 
-abbrev at-start : tie.After-slice-known4 Inv-loop μ-loop → tie.Start Inv-loop μ-loop
-at-start c = c .before .before .before .before
+abbrev looped : tie.After-set-of Inv-loop μ-loop → tie.At-loop Inv-loop μ-loop
+looped c = c .before .before .before .before .before
 
-abbrev at-seen : tie.After-join-sender-arg2 Inv-loop μ-loop → tie.After-seen Inv-loop μ-loop
-at-seen c = c .before .before .before .before
+abbrev chosen : tie.After-join-sender Inv-loop μ-loop → tie.After-set-of Inv-loop μ-loop
+chosen c = c .before .before .before .before .before
 
-abbrev at-loop : tie.After-seen Inv-loop μ-loop → tie.At-loop Inv-loop μ-loop
-at-loop c = c .before .before .before .before
+abbrev joined : tie.After-sends Inv-loop μ-loop → tie.After-join-sender Inv-loop μ-loop
+joined c = c .before .before .before .before .before .before .before .before
 
-abbrev at-slice-known5 : tie.After-slice-known7 Inv-loop μ-loop → tie.After-slice-known5 Inv-loop μ-loop
-at-slice-known5 c = c .before .before .before .before
-
-abbrev at-join-sender-arg2 : tie.After-slice-known5 Inv-loop μ-loop → tie.After-join-sender-arg2 Inv-loop μ-loop
-at-join-sender-arg2 c = c .before .before .before .before
-
-abbrev at-slice-known7 : tie.After-links Inv-loop μ-loop → tie.After-slice-known7 Inv-loop μ-loop
-at-slice-known7 c = c .before .before .before .before
+-- the node is below M, and one of at most 1,024
+low : (c : tie.After-set-of Inv-loop μ-loop) → (looped c .loop .i < begun (looped c) .args .t .nodes) × (looped c .loop .i < 1024)
+low c =
+    let l = c .before .before .before .if1 .taken in
+    (omega (arith, l), omega (arith, l, begun (looped c) .pre .0 .1 .read .formed .fewNodes))
 
 loop-holds : tie.Need-loop-holds Inv-loop μ-loop
 loop-holds c =
@@ -47,51 +43,54 @@ loop-holds c =
 
 node-at-requires : tie.Need-node-at-requires Inv-loop μ-loop
 node-at-requires c κs =
-    let r = at-start (at-slice-known4 (c .before .before)) .pre .0 .1 .read in
-    (omega (arith, r .fills), c .if1 .taken)
+    let r = begun (c .before .before) .pre .0 .1 .read in
+    (omega (arith, r .fills), omega (arith, c .if1 .taken))
 
 set-of-requires : tie.Need-set-of-requires Inv-loop μ-loop
 set-of-requires c κs = c .before .before .before .before .loop .inv .1
 
 join-sender-requires : tie.Need-join-sender-requires Inv-loop μ-loop
-join-sender-requires c κs = (
-  (at-loop (at-seen (c .before)) .loop .inv .2 .room, c .before .before .before .before .set-of .ensures),
-  λ e. askable (at-start (at-slice-known4 (at-loop (at-seen (c .before)))) .pre .0 .1) record { below = c .before .before .before .before .before .before .before .if1 .taken; is = c .before .before .before .before .before .before .node-at .ensures } e,
-)
+join-sender-requires c κs =
+    let g = c .before .before .before .before in (
+      (looped g .loop .inv .2 .room, g .set-of .ensures),
+      λ e. askable (begun (looped g) .pre .0 .1) record { below = low g .0; is = g .before .before .node-at .ensures } e,
+    )
 
 link-if-requires : tie.Need-link-if-requires Inv-loop μ-loop
 link-if-requires c κs =
-    let few = at-start (at-slice-known4 (at-loop (at-seen (at-join-sender-arg2 (at-slice-known5 (c .before .before)))))) .pre .0 .1 .read .formed .fewNodes in
-    (at-loop (at-seen (at-join-sender-arg2 (at-slice-known5 (c .before .before)))) .loop .inv .2 .linked .size, at-join-sender-arg2 (at-slice-known5 (c .before .before)) .before .before .before .set-of .ensures, omega (arith, few, at-seen (at-join-sender-arg2 (at-slice-known5 (c .before .before))) .before .before .if1 .taken))
+    let g = chosen (joined c) in
+    (looped g .loop .inv .2 .linked .size, g .set-of .ensures, low g .1)
 
 loop-again : tie.Need-loop-again Inv-loop μ-loop
 loop-again c =
-    let few = at-start (at-slice-known4 (at-loop (at-seen (at-join-sender-arg2 (at-slice-known5 (at-slice-known7 (c .before))))))) .pre .0 .1 .read .formed .fewNodes in
-    let low = at-seen (at-join-sender-arg2 (at-slice-known5 (at-slice-known7 (c .before)))) .before .before .if1 .taken in
-    let l = at-loop (at-seen (at-join-sender-arg2 (at-slice-known5 (at-slice-known7 (c .before))))) .loop in (
-      omega (arith, low),
-      at-join-sender-arg2 (at-slice-known5 (at-slice-known7 (c .before))) .before .before .before .set-of .kept .0 ∙ l .inv .1,
+    let kept = joined (c .before .before .before) .join-sender .ensures in
+    let g = chosen (joined (c .before .before .before)) in
+    let r = g .before .before .node-at in
+    let l = looped g .loop in (
+      omega (arith, low g .0),
+      g .set-of .kept .0 ∙ l .inv .1,
       rw (c .before .before .link-if .ensures, c .before .before .before .sends .ensures)
-          (gathered-more _ _ _ _ _ _ (l .i) (l .inv .2) (at-join-sender-arg2 (at-slice-known5 (at-slice-known7 (c .before))) .before .before .before .set-of .result) (at-join-sender-arg2 (at-slice-known5 (at-slice-known7 (c .before))) .before .before .before .set-of .ensures) (at-slice-known5 (at-slice-known7 (c .before)) .before .before .join-sender .ensures .0) (at-seen (at-join-sender-arg2 (at-slice-known5 (at-slice-known7 (c .before)))) .before .node-at .result)
-          (at-seen (at-join-sender-arg2 (at-slice-known5 (at-slice-known7 (c .before)))) .before .node-at .ensures) low (omega (arith, few, low)) (at-slice-known5 (at-slice-known7 (c .before)) .before .before .join-sender .ensures .1)),
+          (gathered-more _ _ _ _ _ _ (l .i) (l .inv .2) (g .set-of .result) (g .set-of .ensures) (kept .0) (r .result) (r .ensures) (low g .0) (low g .1)
+          (kept .1)),
     )
 
 same-length : tie.Need-same-length Inv-loop μ-loop
-same-length c = c .before .before .loop .inv .2 .room .needs ∙ sym (at-start (at-slice-known4 (c .before .before)) .pre .1 .0 .needs)
+same-length c = c .before .before .loop .inv .2 .room .needs ∙ sym (begun (c .before .before) .pre .1 .0 .needs)
 
 same-length-2 : tie.Need-same-length-2 Inv-loop μ-loop
-same-length-2 c = c .before .before .loop .inv .2 .room .unions ∙ sym (at-start (at-slice-known4 (c .before .before)) .pre .1 .0 .unions)
+same-length-2 c = c .before .before .loop .inv .2 .room .unions ∙ sym (begun (c .before .before) .pre .1 .0 .unions)
 
 same-length-3 : tie.Need-same-length-3 Inv-loop μ-loop
-same-length-3 c = c .before .before .loop .inv .2 .room .arities ∙ sym (at-start (at-slice-known4 (c .before .before)) .pre .1 .0 .arities)
+same-length-3 c = c .before .before .loop .inv .2 .room .arities ∙ sym (begun (c .before .before) .pre .1 .0 .arities)
 
 same-length-4 : tie.Need-same-length-4 Inv-loop μ-loop
-same-length-4 c = c .before .before .loop .inv .2 .linked .size ∙ sym (ap length (at-start (at-slice-known4 (c .before .before)) .pre .1 .1) ∙ length-replicate {A = ℕ} 1036 0)
+same-length-4 c =
+    c .before .before .loop .inv .2 .linked .size ∙ sym (ap length (begun (c .before .before) .pre .1 .1) ∙ length-replicate {A = ℕ} 1036 0)
 
 returns : tie.Need-returns Inv-loop μ-loop
 returns c bounds =
     let l = c .before .before .loop in
-    let e : l .i ≡ at-start (at-slice-known4 (c .before .before)) .args .t .nodes = omega (arith, l .inv .0, c .if1 .left) in
+    let e : l .i ≡ begun (c .before .before) .args .t .nodes = omega (arith, l .inv .0, c .if1 .left) in
     gathered-all _ _ _ _ _ _ (rw e at (l .inv .2)) bounds
 
 pub gather-spec : {M : Type 1} → statement M

@@ -1,5 +1,5 @@
 -- The needs in the balances below k are kept, and no need gets smaller.
-use Prim.Native.Nat.{ℕ, _+_, _≤_, _<_, _-_}
+use Prim.Native.Nat.{ℕ, _≤_, _<_, _-_}
 use native.Mathlib.Nat.{le-trans}
 use denote.Ref.{now}
 use lib.ListN.{length, set}
@@ -58,7 +58,8 @@ loop-again c =
     let grow = needs-set (l .needs) (x .g) (l .k) (r .result) (there at) (r .ensures .0) (r .ensures .2) in
     let need = rw (at .need .ensures .0) at (r .ensures .1) in (
       needs-trans (l .inv .0) grow,
-      below-more (λ j. needOf (now (x .loads)) (x .q .number) (x .q .node .left) j ≤ loadIn (set (l .needs) (entryIndex (x .g) (l .k)) (r .result)) (x .g) j) (l .k)
+      below-more
+          (λ j. needOf (now (x .loads)) (x .q .number) (x .q .node .left) j ≤ loadIn (set (l .needs) (entryIndex (x .g) (l .k)) (r .result)) (x .g) j) (l .k)
           (λ j h. le-trans (l .inv .1 j h) (grow .more _ j))
           (rw (entry-here (l .needs) (x .g) (l .k) (r .result) (there at) (r .ensures .0) (r .ensures .2)) need),
     )
