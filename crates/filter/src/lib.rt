@@ -22,7 +22,7 @@ fn may_come(unions: &[u64], arities: &[u64], rows: &[u64], g: usize, p: Side) ->
     requires { ⌜ (g < 12) × (p .node .arity ≤ 8) × (length (now arities) ≡ 4) × HasRow (now unions) g × HasRow (now rows) (p .node .name) ⌝ }
     ensures { λ b. ⌜ b ≡ mayCome (now (unions .entry)) (now (arities .entry)) (now (rows .entry)) g p ⌝ }
 {
-    if !marks::is_marked(arities, 0, 16 * g + p.node.arity) {
+    if !marks::is_marked(arities, 0, senders::arity_mark(g, p.node.arity)) {
         return false;
     }
     marks::shares(unions, g, rows, p.node.name)
@@ -39,7 +39,12 @@ fn args_inside(unions: &[u64], rows: &[u64], g: usize, r: Record) -> bool
     let mut m: usize = 0;
     while m < arity {
         inside = inside
-            & marks::contained(unions, 12 + (8 * g + m), rows, wire::byte_index(args[m]));
+            & marks::contained(
+                unions,
+                senders::sent_row(g, m),
+                rows,
+                wire::byte_index(args[m]),
+            );
         m += 1;
     }
     inside
@@ -128,7 +133,7 @@ fn members_pass(
         p.node.left,
     );
     let mut end = t.nodes;
-    let mut next = wire::number_index(links[1024 + g]);
+    let mut next = wire::number_index(links[senders::last_link(g)]);
     while 0 < next {
         let j = next - 1;
         if end <= j {

@@ -15,7 +15,7 @@ use records::Record;
 use records::Trailer;
 
 // The entry of node i in balance k.
-fn entry(i: usize, k: usize) -> usize
+pub fn entry(i: usize, k: usize) -> usize
     requires { ⌜ entryIndex i k < 18446744073709551616 ⌝ }
     ensures { λ n. ⌜ n ≡ entryIndex i k ⌝ }
 {

@@ -1,6 +1,7 @@
 // Live pairs, and rules 3 and 4 as one search over receiver, sender and a last figure.
 // Promises the model's pairs over the array that the file stands for and the table that the checker's own lists stand for: rows of
-// marks, loads of all nodes in all balances, bounds. Depends on loads, arrays, records, marks, wire, model and laws.
+// marks, loads of all nodes in all balances, bounds. A receiver's differences are worked out once, before its senders are looked at. Depends on
+// loads, arrays, records, marks, wire, model and laws.
 ghost use mathlib.Core.Path.{_≡_};
 ghost use mathlib.Core.Bool.{true, false, not, _&&_};
 ghost use Prim.Native.Nat.{ℕ, _-_, _<_, _≤_};

@@ -4,14 +4,14 @@
 // Which set a sender is in is free. Depends on pairs (a side), loads, arrays, records, marks, wire, model and laws.
 ghost use mathlib.Core.Path.{_≡_};
 ghost use mathlib.Core.Bool.{true, false};
-ghost use Prim.Native.Nat.{ℕ, _<_, _≤_};
+ghost use Prim.Native.Nat.{ℕ, _+_, _<_, _≤_};
 ghost use mathlib.Core.List.{List};
 ghost use lib.Dec.{eqb};
 ghost use lib.ListN.{length, replicate};
 ghost use Rattle.model.specs.Memory.{isOut};
 ghost use Rattle.records.specs.Record.{nodeOf};
 ghost use Rattle.pairs.specs.Pairs.{setting, Given};
-ghost use Rattle.senders.specs.Sets.{family, Room, linkIf, Gathered};
+ghost use Rattle.senders.specs.Sets.{arityMark, sentRow, family, Room, linkIf, Gathered};
 ghost use Rattle.senders.specs.Sets.{HalfNeeds, NeedsGrow, RowsGrow, Grown, SentKept, NeedsKept, KeptBy, SentRows, NeedsThere, Askable};
 use pairs::Side;
 use records::Record;
@@ -45,7 +45,31 @@ fn set_of(seen: &mut [u8], fine: bool, r: Record) -> usize
     (c + before / 16) % 12
 }
 
-// ---- what a set keeps
+// ---- what a set keeps, and where
+
+// The mark of arity n in set g.
+pub fn arity_mark(g: usize, n: usize) -> usize
+    requires { ⌜ (g < 12) × (n ≤ 8) ⌝ }
+    ensures { λ o. ⌜ o ≡ arityMark g n ⌝ }
+{
+    16 * g + n
+}
+
+// The row of what set g sends as argument m; row g is that of its channels.
+pub fn sent_row(g: usize, m: usize) -> usize
+    requires { ⌜ (g < 12) × (m < 8) ⌝ }
+    ensures { λ x. ⌜ x ≡ sentRow g m ⌝ }
+{
+    12 + (8 * g + m)
+}
+
+// The entry of set g's last sender, above those of all nodes.
+pub fn last_link(g: usize) -> usize
+    requires { ⌜ g < 12 ⌝ }
+    ensures { λ x. ⌜ x ≡ 1024 + g ⌝ }
+{
+    1024 + g
+}
 
 // The greater of an entry and a need.
 fn greater(x: u32, need: u32) -> u32
@@ -68,7 +92,8 @@ fn join_needs(needs: &mut [u32], g: usize, balances: usize, loads: &[u32], q: Si
     let mut k: usize = 0;
     while k < balances {
         let need = pairs::need(loads, own, left, k);
-        needs[24 * g + k] = greater(needs[24 * g + k], need);
+        let at = loads::entry(g, k);
+        needs[at] = greater(needs[at], need);
         k += 1;
     }
 }
@@ -82,7 +107,7 @@ fn join_sent(unions: &mut [u64], g: usize, rows: &[u64], r: Record)
     let arity = r.arity;
     let mut m: usize = 0;
     while m < arity {
-        marks::join(unions, 12 + (8 * g + m), rows, wire::byte_index(args[m]));
+        marks::join(unions, sent_row(g, m), rows, wire::byte_index(args[m]));
         m += 1;
     }
 }
@@ -133,7 +158,7 @@ fn join_sender(
     if !records::sends(q.node) {
         return;
     }
-    marks::mark_if(arities, true, 16 * g + q.node.arity);
+    marks::mark_if(arities, true, arity_mark(g, q.node.arity));
     marks::join(unions, g, rows, q.node.name);
     join_figures(rule, needs, unions, g, balances, rows, loads, q);
 }
@@ -148,9 +173,10 @@ fn link_if(links: &mut [u16], on: bool, g: usize, q: usize)
     if !on {
         return;
     }
-    let last = links[1024 + g];
+    let at = last_link(g);
+    let last = links[at];
     links[q] = last;
-    links[1024 + g] = (q + 1) as u16;
+    links[at] = (q + 1) as u16;
 }
 
 // ---- all senders

@@ -28,7 +28,7 @@ given s =
 
 -- the start, seen from the loop by way of the differences, and the loop, seen from a sender's record
 abbrev at-is-resource : tie.At-loop Inv-loop μ-loop → tie.After-is-resource Inv-loop μ-loop
-at-is-resource c = c .before .before .before .before .before .before
+at-is-resource c = c .before .before .before .before .before .before .before
 
 abbrev begun : tie.After-is-resource Inv-loop μ-loop → tie.Start Inv-loop μ-loop
 begun c = c .before .before .before .before .before .before .before .before
@@ -60,9 +60,10 @@ differences-requires c κs =
 
 loop-holds : tie.Need-loop-holds Inv-loop μ-loop
 loop-holds c =
-    let d = c .before .before .before .before in
+    let d = c .before .before .before .before .before in
     let s = begun (d .before) in (
-      rw (c .number-index .ensures .0) (members-begun (s .args .rule) (given s) (s .args .p) (s .args .g) (now (s .args .links))),
+      rw (c .number-index .ensures .0, c .before .before .last-link .ensures)
+          (members-begun (s .args .rule) (given s) (s .args .p) (s .args .g) (now (s .args .links))),
       record {
         manyGives = d .differences .kept .0;
         manyRooms = d .differences .kept .1 .0;
@@ -126,6 +127,7 @@ pub members-pass-spec : {M : Type 1} → statement M
 members-pass-spec =
     tie.close
     (tie.spec
-    Inv-loop μ-loop (λ c. search needs) (λ c. search needs) (λ c κs. search needs) differences-requires (λ c. search needs) (λ c. search needs)
-    (λ c. search needs) (λ c κs. search needs) loop-holds (λ c. search needs) returns node-at-requires (λ c. search needs) (λ c. search needs)
-    breaks-requires returns-2 mul-number-index-2 shared-slice-read-number-index-2 (λ c κs. search needs) loop-less loop-again returns-3)
+    Inv-loop μ-loop (λ c. search needs) (λ c. search needs) (λ c κs. search needs) differences-requires (λ c κs. search needs)
+    (λ c. search needs) (λ c. search needs) (λ c κs. search needs) loop-holds (λ c. search needs) returns node-at-requires (λ c. search needs)
+    (λ c. search needs) breaks-requires returns-2 mul-number-index-2 shared-slice-read-number-index-2 (λ c κs. search needs) loop-less loop-again
+    returns-3)

@@ -1,10 +1,11 @@
 -- Of a sender the mark, the channel's row and the figures are joined, each to lists that only grow; any other node changes nothing.
 use Prim.Native.Nat.{_/_, _<_}
-use mathlib.Core.Path.{sym, ap, _∙_}
+use mathlib.Core.Path.{_≡_, sym, ap, _∙_}
 use mathlib.Core.Bool.{true, true≢false}
 use denote.Ref.{now}
 use lib.ListN.{length}
 use borrow.Author.Tests.{not-true, not-false}
+use Rattle.marks.specs.Marks.{markIf}
 use Rattle.marks.proofs.Laws.{markIf-length, join-adds}
 use Rattle.senders.specs.Sets.{Askable, arityMark}
 use Rattle.senders.proofs.Laws.{grown-same, rows-trans, rows-joined, rows-keep, mark-keeps, mark-adds}
@@ -20,6 +21,11 @@ begun c = c .before .before .before .before .before .before .before
 abbrev tested : tie.After-mark-if → tie.Else1
 tested c = c .before .before .before
 
+-- the list with the mark
+marked-is : (c : tie.After-mark-if) → let x = begun (tested c) .args in
+    c .mark-if .last .0 ≡ markIf (now (x .arities)) true (arityMark (x .g) (x .q .node .arity))
+marked-is c = rw (c .before .arity-mark .ensures) at (c .mark-if .ensures)
+
 abbrev noted : tie.After-join → tie.After-mark-if
 noted c = c .before .before .before .before
 
@@ -34,11 +40,11 @@ fits c = omega (arith, begun c .pre .0 .0 .arities, begun c .pre .0 .1, asked c 
 returns : tie.Need-returns
 returns c = (grown-same _, λ e. absurd (true≢false (sym e ∙ sym (c .before .sends .ensures) ∙ not-true (c .before .sends .result) (c .if1 .taken))))
 
-add-mark-if : tie.Need-add-mark-if
-add-mark-if c = omega (arith, begun (c .before .before) .pre .0 .1, asked (c .before .before) .sent .few)
+arity-mark-requires : tie.Need-arity-mark-requires
+arity-mark-requires c κs = (begun (c .before) .pre .0 .1, asked (c .before) .sent .few)
 
 mark-if-requires : tie.Need-mark-if-requires
-mark-if-requires c κs = fits (c .before .before)
+mark-if-requires c κs = rw (c .arity-mark .ensures) (fits (c .before .before))
 
 join-requires : tie.Need-join-requires
 join-requires c κs =
@@ -60,13 +66,13 @@ same-length-2 c =
     c .before .before .before .before .join-figures .ensures .0 .1 .size ∙ at .join .ensures .size
 
 same-length-3 : tie.Need-same-length-3
-same-length-3 c = ap length (noted (c .before .before .before .before .before .before .before .before .before) .mark-if .ensures) ∙ markIf-length _ _ _
+same-length-3 c = ap length (marked-is (noted (c .before .before .before .before .before .before .before .before .before))) ∙ markIf-length _ _ _
 
 returns-2 : tie.Need-returns-2
 returns-2 c =
     let at = c .before .before .before .before .before .before .before .before .before in
     let f = c .before .before .before .before .join-figures .ensures in
-    let mark = noted at .mark-if .ensures in
+    let mark = marked-is (noted at) in
     let there = fits (tested (noted at)) in (
       record {
         needs = f .0 .0;
@@ -86,5 +92,5 @@ pub join-sender-spec : {M : Type 1} → statement M
 join-sender-spec =
     tie.close
     (tie.spec
-    (λ c κs. search needs) returns (λ c. search needs) add-mark-if mark-if-requires join-requires join-figures-requires same-length same-length-2
+    (λ c κs. search needs) returns arity-mark-requires mark-if-requires join-requires join-figures-requires same-length same-length-2
     same-length-3 returns-2)
