@@ -1,6 +1,6 @@
 //! The designs of the checker: array and table. Unless a part says otherwise, each has weight 1 for every agent in K
 //! balances of bound 2 and 256 claims where K isn't 0 (fewer where agents are too few for one set). All are held, but
-//! for `broken`; so every live pair is looked at.
+//! for `broken`; so no version may leave a live pair out, alone or in a set.
 
 mod defeats;
 mod fleet;

@@ -156,6 +156,7 @@ mod tests {
     /// A receiver and a sender of its arity on channels that share a bit.
     struct Pair {
         p: usize,
+        channel: usize,
         live: bool,
         /// It would break a rule if it were live.
         breaks: bool,
@@ -178,15 +179,15 @@ mod tests {
                 let outside = |(v, w): (&usize, &usize)| !table.row(*v).within(&table.row(*w));
                 let third = from.arguments.iter().zip(&to.arguments).any(outside);
                 let fourth = loads.iter().any(|loads| loads[to.left] + loads[from.left] > loads[p] + loads[q]);
-                pairs.push(Pair { p, live: live(&array, &table, p, q), breaks: third || fourth });
+                let live = live(&array, &table, p, q);
+                pairs.push(Pair { p, channel: to.name, live, breaks: third || fourth });
             }
         }
         pairs
     }
 
     /// Of any `near` senders that a receiver may meet, one would break a rule.
-    fn defeats(files: &Files, near: usize) {
-        let pairs = pairs(files);
+    fn defeats(pairs: Vec<Pair>, near: usize) {
         for of_one in pairs.chunk_by(|one, other| one.p == other.p) {
             assert!(of_one.windows(near.min(of_one.len())).all(|some| some.iter().any(|pair| pair.breaks)));
         }
@@ -195,15 +196,18 @@ mod tests {
 
     /// And each is within the bound alone.
     fn defeats_within(files: &Files, near: usize) {
-        defeats(files, near);
+        defeats(pairs(files), near);
         let table = TableFile::read(&files.table);
         assert!(table.balances.iter().all(|balance| balance.weights.iter().all(|w| u32::from(*w) <= balance.bound)));
     }
 
     #[test]
     fn sets_of_senders_decide_nothing() {
-        defeats(&defeat(1024, 24), usize::MAX);
-        defeats(&defeat3(1024, 256, 24), usize::MAX);
+        defeats(pairs(&defeat(1024, 24)), usize::MAX);
+        defeats(pairs(&defeat3(1024, 256, 24)), usize::MAX);
+        let mut sparse = pairs(&defeat_sparse(1024, 128, 24));
+        sparse.retain(|pair| pair.channel == 0);
+        defeats(sparse, usize::MAX);
         defeats_within(&within(1024, 24), usize::MAX);
         defeats_within(&within_spread(1024, 24), 10);
         defeats_within(&within_sparse(1024, 128, 24), usize::MAX);

@@ -1,7 +1,7 @@
 -- A set that passes has no sender that breaks the rule with the receiver.
 use Prim.Native.Nat.{ℕ, _+_, _≤_, _<_}
 use native.Mathlib.Omega.{arith}
-use mathlib.Core.Path.{_≡_, refl, sym, ap, _∙_}
+use mathlib.Core.Path.{_≡_, refl, sym, _∙_}
 use mathlib.Core.Logic.{inl, inr}
 use mathlib.Core.Bool.{true, false, true≢false}
 use mathlib.Core.List.{List}
@@ -13,17 +13,16 @@ use Rattle.laws.proofs.Search.{decided, and-join, every-true, true-every}
 use Rattle.laws.proofs.Lists.{getD-zeros}
 use Rattle.marks.specs.Marks.{marked}
 use Rattle.marks.proofs.Laws.{inside-trans, share-inside}
-use Rattle.model.specs.Tree.{isAgent}
 use Rattle.model.specs.Memory.{isOut}
 use Rattle.records.specs.declared.Record.{Record}
 use Rattle.records.specs.Record.{nodeOf}
 use Rattle.records.specs.Kinds.{isReceiver}
-use Rattle.records.proofs.Laws.{node-read}
 use Rattle.records.proofs.KindLaws.{sender-is}
 use Rattle.loads.specs.Loads.{entryIndex, loadIn}
 use Rattle.pairs.specs.declared.Side.{Side}
 use Rattle.pairs.specs.Pairs.{Setting, Given, Held, arrayIn, tableIn, pairsAt, figuresOf, allHold, breaksPair, needOf, takenOf}
-use Rattle.pairs.proofs.Laws.{alive, live-near, arities, live-shares}
+use Rattle.pairs.proofs.Laws.{near, alive, live-near, arities, live-shares}
+use Rattle.pairs.proofs.ByDifference.{light}
 use Rattle.pairs.proofs.Search.{sound-row}
 use Rattle.senders.specs.Sets.{arityMark, Family, family, Room, Covers, Collected, Linked, Gathered}
 use Rattle.filter.specs.Filter.{mayCome, figuresPass, SetSound, Sound}
@@ -44,27 +43,28 @@ module _ (rule : ℕ) {S : Setting} (given : Given S) {p : Side} (hp : Held S p)
       comes : alive S p q ≡ true → marked (F .arities) 0 (arityMark g (p .node .arity)) ≡ true
       comes l = rw (arities given hp rp hq (live-near S p q l)) (covers .arity)
 
-  -- the rule holds beside all senders of the set together
-  pub whole-set : figuresPass rule (S .n) (F .needs) (F .unions) (S .rows) (S .loads) g p ≡ true → breaksPair rule S p q ≡ false
-  whole-set e =
-      unbroken rule S p q (λ l.
+  -- the rule holds beside all senders of the set together: with each that meets the receiver, live or not
+  pub whole-holds : figuresPass rule (S .n) (F .needs) (F .unions) (S .rows) (S .loads) g p ≡ true → near S p q ≡ true
+      → allHold rule (S .n) (S .rows) (S .loads) p q ≡ true
+  whole-holds e l =
       elim (decided (eqb rule 3)) [
         | inl three ↦
             rw three (true-every _ _ (λ m h.
-            inside-trans _ _ _ _ _ _ (covers .sent three m (rw (← arities given hp rp hq (live-near S p q l)) h)) (every-true _ _ (rw three at e) m h)))
+            inside-trans _ _ _ _ _ _ (covers .sent three m (rw (← arities given hp rp hq l) h)) (every-true _ _ (rw three at e) m h)))
         | inr four ↦
             rw four (true-every _ _ (λ k h.
             le-leb _ _ (met k h (covers .needs four k h) (ltb-false _ _ (not-true _ (every-true _ _ (rw four at e) k h))))))
-      ])
+      ]
     where
       met : (k : ℕ) → k < S .n → needOf (S .loads) (q .number) (q .node .left) k ≤ loadIn (F .needs) g k
           → loadIn (S .loads) (p .node .left) k + loadIn (F .needs) g k ≤ 65536 + takenOf (p .node) (loadIn (S .loads) (p .number) k)
           → loadIn (S .loads) (p .node .left) k + loadIn (S .loads) (q .node .left) k
           ≤ loadIn (S .loads) (q .number) k + takenOf (p .node) (loadIn (S .loads) (p .number) k)
       met k h need give =
-          let agent = ap isAgent (node-read (S .f) (S .t) (q .number) (q .node) (hq .below) (hq .is)) ∙ sender-is (q .node) sends .0 in
-          let light = given .weighed .light (q .number) k agent h in
-          omega (arith, need, give, light)
+          omega (arith, need, give, light given hq (sender-is (q .node) sends .0) k h)
+
+  pub whole-set : figuresPass rule (S .n) (F .needs) (F .unions) (S .rows) (S .loads) g p ≡ true → breaksPair rule S p q ≡ false
+  whole-set e = unbroken rule S p q (λ l. whole-holds e (live-near S p q l))
 
 -- ---- set after set
 

@@ -122,16 +122,7 @@ fn members_pass(
 {
     let mut gives = [0u32; 24];
     let mut rooms = [0u32; 24];
-    pairs::differences(
-        &mut gives,
-        &mut rooms,
-        balances,
-        loads,
-        bounds,
-        records::is_resource(p.node),
-        p.number,
-        p.node.left,
-    );
+    pairs::differences(&mut gives, &mut rooms, balances, loads, bounds, p);
     let mut end = t.nodes;
     let mut next = wire::number_index(links[senders::last_link(g)]);
     while 0 < next {

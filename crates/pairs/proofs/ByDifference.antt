@@ -26,13 +26,12 @@ use Rattle.pairs.proofs.Laws.{near, alive, meet-sends, argument-rows}
 
 -- ---- filling the lists
 
-module _ (loads bounds : List ℕ) (stays : Bool) (i l : ℕ) where
+module _ (loads bounds : List ℕ) (p : Side) where
   -- one balance more
-  pub differences-more : (k : ℕ) (gives rooms : List ℕ) → k < length gives → k < length rooms → Differences k loads bounds stays i l gives rooms
-      → (x y : ℕ) → x ≡ giveOf loads stays i l k → y ≡ roomOf loads bounds i k
-      → Differences (k + 1) loads bounds stays i l (set gives k x) (set rooms k y)
+  pub differences-more : (k : ℕ) (gives rooms : List ℕ) → k < length gives → k < length rooms → Differences k loads bounds p gives rooms
+      → (x y : ℕ) → x ≡ giveOf loads p k → y ≡ roomOf loads bounds p k → Differences (k + 1) loads bounds p (set gives k x) (set rooms k y)
   differences-more k gives rooms fg fr before x y ex ey =
-      below-more (λ j. (getD (set gives k x) j 0 ≡ giveOf loads stays i l j) × (getD (set rooms k y) j 0 ≡ roomOf loads bounds i j)) k
+      below-more (λ j. (getD (set gives k x) j 0 ≡ giveOf loads p j) × (getD (set rooms k y) j 0 ≡ roomOf loads bounds p j)) k
       (λ j h.
       let other : j ≡ k → ⊥ = λ e. absurd (omega (arith, h, e)) in
       (getD-set-other gives k j x 0 other ∙ before j h .0, getD-set-other rooms k j y 0 other ∙ before j h .1))

@@ -144,12 +144,10 @@ goneOf stays weight = cond stays 0 weight
 abbrev pub takenOf : Record → ℕ → ℕ
 takenOf r weight = goneOf (isResource (nodeOf r)) weight
 
--- receiver i, which stays or goes, with continuation l, and sender j with continuation r
-abbrev pub leavesRoom : List ℕ → Bool → ℕ → ℕ → ℕ → ℕ → ℕ → Bool
-leavesRoom loads stays i l j r k = leb (loadIn loads l k + loadIn loads r k) (loadIn loads j k + goneOf stays (loadIn loads i k))
-
+-- both continuations are within the sender's weight and what goes of the receiver's
 abbrev pub balanceHolds : List ℕ → Side → Side → ℕ → Bool
-balanceHolds loads p q k = leavesRoom loads (isResource (nodeOf (p .node))) (p .number) (p .node .left) (q .number) (q .node .left) k
+balanceHolds loads p q k =
+    leb (loadIn loads (p .node .left) k + loadIn loads (q .node .left) k) (loadIn loads (q .number) k + takenOf (p .node) (loadIn loads (p .number) k))
 
 abbrev pub holdsAt : ℕ → List ℕ → List ℕ → Side → Side → ℕ → Bool
 holdsAt rule rows loads p q n = cond (eqb rule 3) (argumentHolds rows p q n) (balanceHolds loads p q n)
@@ -162,33 +160,33 @@ allHold rule n rows loads p q = cond (eqb rule 3) (every (p .node .arity) (argum
 abbrev pub breaksPair : ℕ → Setting → Side → Side → Bool
 breaksPair rule S p q = livePair (S .rows) (S .loads) (S .bounds) (S .n) p q && not (allHold rule (S .n) (S .rows) (S .loads) p q)
 
--- ---- the same by differences: those of a receiver are worked out once, before its senders are looked at
+-- ---- the same by differences: those of a receiver are worked out before its senders are looked at
 
 -- what sender j with continuation r needs of a receiver in balance k: load of the continuation + 65,536 − weight, a natural number
 abbrev pub needOf : List ℕ → ℕ → ℕ → ℕ → ℕ
 needOf loads j r k = (loadIn loads r k + 65536) - loadIn loads j k
 
--- what receiver i, which stays or goes, with continuation l, gives: 65,536 + what goes of its weight − load of the continuation, or 0
-abbrev pub giveOf : List ℕ → Bool → ℕ → ℕ → ℕ → ℕ
-giveOf loads stays i l k = (65536 + goneOf stays (loadIn loads i k)) - loadIn loads l k
+-- what receiver p gives in balance k: 65,536 + what goes of its weight − load of its continuation, or 0
+abbrev pub giveOf : List ℕ → Side → ℕ → ℕ
+giveOf loads p k = (65536 + takenOf (p .node) (loadIn loads (p .number) k)) - loadIn loads (p .node .left) k
 
 -- two weights are below 131,071 together, so that a greater bound says no more
 abbrev pub capped : ℕ → ℕ
 capped bound = cond (ltb bound 131071) bound 131071
 
--- one more than what a sender may weigh beside receiver i, or 0
-abbrev pub roomOf : List ℕ → List ℕ → ℕ → ℕ → ℕ
-roomOf loads bounds i k = (capped (getD bounds k 0) + 1) - loadIn loads i k
+-- one more than what a sender may weigh beside receiver p, or 0
+abbrev pub roomOf : List ℕ → List ℕ → Side → ℕ → ℕ
+roomOf loads bounds p k = (capped (getD bounds k 0) + 1) - loadIn loads (p .number) k
 
--- the lists of both, in n balances
-abbrev pub Differences : ℕ → List ℕ → List ℕ → Bool → ℕ → ℕ → List ℕ → List ℕ → Type 0
-Differences n loads bounds stays i l gives rooms =
-    (k : ℕ) → k < n → (getD gives k 0 ≡ giveOf loads stays i l k) × (getD rooms k 0 ≡ roomOf loads bounds i k)
+-- the lists of both, of receiver p in n balances
+abbrev pub Differences : ℕ → List ℕ → List ℕ → Side → List ℕ → List ℕ → Type 0
+Differences n loads bounds p gives rooms =
+    (k : ℕ) → k < n → (getD gives k 0 ≡ giveOf loads p k) × (getD rooms k 0 ≡ roomOf loads bounds p k)
 
 pub record DifferencesOf (S : Setting) (p : Side) (gives rooms : List ℕ) : Type 0 where
   pub manyGives : length gives ≡ 24
   pub manyRooms : length rooms ≡ 24
-  pub are : Differences (S .n) (S .loads) (S .bounds) (isResource (nodeOf (p .node))) (p .number) (p .node .left) gives rooms
+  pub are : Differences (S .n) (S .loads) (S .bounds) p gives rooms
 
 -- sender j fits beside the receiver in balance k
 abbrev pub fitsBeside : List ℕ → List ℕ → ℕ → ℕ → Bool

@@ -1,7 +1,7 @@
 // Live pairs, and rules 3 and 4 as one search over receiver, sender and a last figure.
 // Promises the model's pairs over the array that the file stands for and the table that the checker's own lists stand for: rows of
-// marks, loads of all nodes in all balances, bounds. A receiver's differences are worked out once, before its senders are looked at. Depends on
-// loads, arrays, records, marks, wire, model and laws.
+// marks, loads of all nodes in all balances, bounds. A receiver's differences are worked out before its senders are looked at, and not for each of
+// them. Depends on loads, arrays, records, marks, wire, model and laws.
 ghost use mathlib.Core.Path.{_≡_};
 ghost use mathlib.Core.Bool.{true, false, not, _&&_};
 ghost use Prim.Native.Nat.{ℕ, _-_, _<_, _≤_};
@@ -100,25 +100,25 @@ fn cap(bound: u32) -> u32
     131071
 }
 
-// The differences of receiver i, which stays or goes, with continuation l: what it gives, and one more than what a sender may weigh beside it.
+// The differences of receiver p: what it gives, and one more than what a sender may weigh beside it.
 pub fn differences(
     gives: &mut [u32],
     rooms: &mut [u32],
     balances: usize,
     loads: &[u32],
     bounds: &[u32],
-    stays: bool,
-    i: usize,
-    l: usize,
+    p: Side,
 )
     requires { ⌜ (length (now gives) ≡ 24) × (length (now rooms) ≡ 24) × (length (now bounds) ≡ 24) × (balances ≤ 24) ⌝ }
-    requires { ⌜ HalfRow (now loads) balances i × HalfRow (now loads) balances l ⌝ }
-    ensures { λ _. ⌜ Differences balances (now (loads .entry)) (now (bounds .entry)) stays i l (now (gives .exit)) (now (rooms .exit)) ⌝ }
+    requires { ⌜ HalfRow (now loads) balances (p .number) × HalfRow (now loads) balances (p .node .left) ⌝ }
+    ensures { λ _. ⌜ Differences balances (now (loads .entry)) (now (bounds .entry)) p (now (gives .exit)) (now (rooms .exit)) ⌝ }
 {
+    let stays = records::is_resource(p.node);
     let mut k: usize = 0;
     while k < balances {
-        let weight = loads::load_at(loads, i, k);
-        gives[k] = difference(65536 + gone(stays, weight), loads::load_at(loads, l, k));
+        let weight = loads::load_at(loads, p.number, k);
+        let next = loads::load_at(loads, p.node.left, k);
+        gives[k] = difference(65536 + gone(stays, weight), next);
         rooms[k] = difference(cap(bounds[k]) + 1, weight);
         k += 1;
     }
@@ -291,16 +291,7 @@ pub fn first_pair(
         }
         let mut gives = [0u32; 24];
         let mut rooms = [0u32; 24];
-        differences(
-            &mut gives,
-            &mut rooms,
-            balances,
-            loads,
-            bounds,
-            records::is_resource(p.node),
-            i,
-            p.node.left,
-        );
+        differences(&mut gives, &mut rooms, balances, loads, bounds, p);
         'sender: for j in 0..nodes {
             let q = Side {
                 number: j,

@@ -1,7 +1,7 @@
 // Twelve sets of senders, in lists that the checker lends: for each set the arities, the rows of the channels and of what is sent, all together, and
 // the largest need in each balance; and the senders of each set, linked.
 // Promises that each sender is in one set, that its set keeps what it asks of a receiver, and that the links pass every sender of a set.
-// Which set a sender is in is free. Depends on pairs (a side), loads, arrays, records, marks, wire, model and laws.
+// Which set a sender is in is free. Depends on pairs (a side, what it needs), loads, arrays, records, marks, wire, model and laws.
 ghost use mathlib.Core.Path.{_≡_};
 ghost use mathlib.Core.Bool.{true, false};
 ghost use Prim.Native.Nat.{ℕ, _+_, _<_, _≤_};

@@ -27,11 +27,11 @@ given s =
     setting (now (x .file)) (x .t) (x .balances) (now (x .rows)) (now (x .loads)) (now (x .bounds))
 
 -- the start, seen from the loop by way of the differences, and the loop, seen from a sender's record
-abbrev at-is-resource : tie.At-loop Inv-loop μ-loop → tie.After-is-resource Inv-loop μ-loop
-at-is-resource c = c .before .before .before .before .before .before .before
+abbrev at-rooms : tie.At-loop Inv-loop μ-loop → tie.After-rooms Inv-loop μ-loop
+at-rooms c = c .before .before .before .before .before .before .before
 
-abbrev begun : tie.After-is-resource Inv-loop μ-loop → tie.Start Inv-loop μ-loop
-begun c = c .before .before .before .before .before .before .before .before
+abbrev begun : tie.After-rooms Inv-loop μ-loop → tie.Start Inv-loop μ-loop
+begun c = c .before .before .before .before .before .before .before
 
 abbrev looped : tie.After-node-at Inv-loop μ-loop → tie.At-loop Inv-loop μ-loop
 looped c = c .before .before .before
@@ -39,7 +39,7 @@ looped c = c .before .before .before
 -- the sender
 module _ (c : tie.After-node-at Inv-loop μ-loop) where
   abbrev start : tie.Start Inv-loop μ-loop
-  start = begun (at-is-resource (looped c))
+  start = begun (at-rooms (looped c))
 
   abbrev sender : Side
   sender = record { number = looped c .loop .next - 1; node = c .node-at .result }
@@ -67,7 +67,7 @@ loop-holds c =
       record {
         manyGives = d .differences .kept .0;
         manyRooms = d .differences .kept .1 .0;
-        are = rw (d .before .is-resource .ensures) at (d .differences .ensures);
+        are = d .differences .ensures;
       },
     )
 
@@ -77,7 +77,7 @@ returns c e = absurd (true≢false (sym e))
 node-at-requires : tie.Need-node-at-requires Inv-loop μ-loop
 node-at-requires c κs =
     let l = c .before .before in
-    (omega (arith, begun (at-is-resource l) .pre .0 .0 .read .fills), omega (arith, l .loop .inv .0 .0, c .if1 .left))
+    (omega (arith, begun (at-rooms l) .pre .0 .0 .read .fills), omega (arith, l .loop .inv .0 .0, c .if1 .left))
 
 breaks-requires : tie.Need-breaks-requires Inv-loop μ-loop
 breaks-requires c κs =
@@ -127,7 +127,6 @@ pub members-pass-spec : {M : Type 1} → statement M
 members-pass-spec =
     tie.close
     (tie.spec
-    Inv-loop μ-loop (λ c. search needs) (λ c. search needs) (λ c κs. search needs) differences-requires (λ c κs. search needs)
-    (λ c. search needs) (λ c. search needs) (λ c κs. search needs) loop-holds (λ c. search needs) returns node-at-requires (λ c. search needs)
-    (λ c. search needs) breaks-requires returns-2 mul-number-index-2 shared-slice-read-number-index-2 (λ c κs. search needs) loop-less loop-again
-    returns-3)
+    Inv-loop μ-loop (λ c. search needs) (λ c. search needs) differences-requires (λ c κs. search needs) (λ c. search needs) (λ c. search needs)
+    (λ c κs. search needs) loop-holds (λ c. search needs) returns node-at-requires (λ c. search needs) (λ c. search needs) breaks-requires
+    returns-2 mul-number-index-2 shared-slice-read-number-index-2 (λ c κs. search needs) loop-less loop-again returns-3)

@@ -61,7 +61,7 @@ module _ (c : tie.Else1 Inv-balance μ-balance Inv-sender μ-sender Inv-receiver
 -- it, seen from its differences, and these, seen from the record of the sender
 abbrev entered : tie.After-rooms2 Inv-balance μ-balance Inv-sender μ-sender Inv-receiver μ-receiver
     → tie.Else1 Inv-balance μ-balance Inv-sender μ-sender Inv-receiver μ-receiver
-entered c = c .before .before .before .before .before .before
+entered c = c .before .before .before .before .before
 
 abbrev lists : tie.After-node-at2 Inv-balance μ-balance Inv-sender μ-sender Inv-receiver μ-receiver
     → tie.After-rooms2 Inv-balance μ-balance Inv-sender μ-sender Inv-receiver μ-receiver
@@ -86,7 +86,7 @@ receiver-again c =
 
 differences-requires : tie.Need-differences-requires Inv-balance μ-balance Inv-sender μ-sender Inv-receiver μ-receiver
 differences-requires c κs =
-    let w = begun (c .before .before .before) in
+    let w = begun (c .before .before) in
     let g = w .receiver .given in
     let half = g .weighed .half in (
       (refl, refl, g .lists .manyBounds, g .lists .few),
@@ -99,7 +99,7 @@ sender-holds c = (
   record {
     manyGives = c .before .before .differences .kept .0;
     manyRooms = c .before .before .differences .kept .1 .0;
-    are = rw (c .before .before .before .is-resource .ensures) at (c .before .before .differences .ensures);
+    are = c .before .before .differences .ensures;
   },
 )
 
@@ -171,7 +171,7 @@ first-pair-spec =
     tie.close
     (tie.spec
     Inv-balance μ-balance Inv-sender μ-sender Inv-receiver μ-receiver receiver-holds (λ c κs. search needs) (λ c κs. search needs)
-    (λ c. search needs) (λ c. search needs) receiver-again (λ c. search needs) (λ c. search needs) (λ c κs. search needs) differences-requires
-    sender-holds (λ c κs. search needs) (λ c. search needs) live-requires (λ c. search needs) (λ c. search needs) sender-again balance-holds
+    (λ c. search needs) (λ c. search needs) receiver-again (λ c. search needs) (λ c. search needs) differences-requires sender-holds
+    (λ c κs. search needs) (λ c. search needs) live-requires (λ c. search needs) (λ c. search needs) sender-again balance-holds
     (λ c. search needs) figure-holds-requires add-n (λ c. search needs) balance-again (λ c. search needs) (λ c. search needs) sender-again-2
     (λ c. search needs) (λ c. search needs) receiver-again-2 returns returns-2)

@@ -1,6 +1,7 @@
 -- By the rule's number: one list grows, the other stays.
 use mathlib.Core.Path.{sym, _∙_}
 use mathlib.Core.Bool.{true≢false}
+use native.Mathlib.Omega.{arith}
 use borrow.Author.Tests.{eq-eqb, ne-eqb}
 use Rattle.senders.proofs.Laws.{needs-same, rows-same}
 use Rattle.senders.proofs.join_figures.Statement.{statement}
@@ -10,7 +11,7 @@ join-sent-requires : tie.Need-join-sent-requires
 join-sent-requires c κs = let p = c .before .before .before .before .before .before .pre in (p .0 .2, p .0 .3, p .1 .0)
 
 join-needs-requires : tie.Need-join-needs-requires
-join-needs-requires c κs = let p = c .before .before .before .before .before .before .pre in (p .0 .0, p .0 .1, p .0 .3, p .1 .1)
+join-needs-requires c κs = let p = c .before .before .before .before .before .before .pre in (p .0 .0, p .0 .1, omega (arith, p .0 .3), p .1 .1)
 
 same-length : tie.Need-same-length
 same-length c = c .before .before .join-sent .ensures .0 .size
