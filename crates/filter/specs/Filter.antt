@@ -1,5 +1,5 @@
 -- A receiver beside sets of senders. A set that passes has no sender that is in a live pair with the receiver and breaks the rule; where the rule
--- holds beside all that the set sends or needs (`figuresPass`), none that breaks it, live or not (whole-holds). A set that does not pass says nothing.
+-- holds beside all that the set sends or needs (`figuresPass`), none that meets it and breaks the rule, live or not. A set that does not pass says nothing.
 use Prim.Native.Nat.{ℕ, _+_, _<_}
 use mathlib.Core.Path.{_≡_}
 use mathlib.Core.Bool.{Bool, true, false, cond, not, _&&_}
