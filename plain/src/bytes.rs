@@ -39,6 +39,11 @@ impl Names {
         set
     }
 
+    /// The set as the bytes of a flow row.
+    pub fn bytes(&self) -> &[u8; 32] {
+        &self.0
+    }
+
     pub fn has(&self, name: usize) -> bool {
         bit(&self.0, name)
     }
@@ -63,12 +68,17 @@ impl Names {
 
     /// Both sets have a number in common.
     pub fn shares(&self, other: &Names) -> bool {
-        self.0.iter().zip(other.0).any(|(a, b)| a & b != 0)
+        self.0.iter().zip(other.0).fold(0, |common, (a, b)| common | a & b) != 0
     }
 
     /// Every number of this set is in the other one.
     pub fn within(&self, other: &Names) -> bool {
         self.0.iter().zip(other.0).all(|(a, b)| a & !b == 0)
+    }
+
+    /// How many numbers the set has.
+    pub fn count(&self) -> usize {
+        self.0.iter().map(|byte| byte.count_ones() as usize).sum()
     }
 
     /// The numbers in rising order.

@@ -1,5 +1,6 @@
 //! Plain version of the handover checker: array reader, table reader,
-//! the five rules, the calculus without limits, and the step engine.
+//! the five rules, the mending of tables, the calculus without limits,
+//! and the step engine.
 
 #![forbid(unsafe_code)]
 
@@ -7,6 +8,7 @@ pub mod array;
 pub mod bytes;
 pub mod calculus;
 pub mod engine;
+pub mod mend;
 pub mod programs;
 pub mod rules;
 pub mod table;
@@ -16,6 +18,7 @@ mod tests;
 
 pub use array::{read_array, remark, Array, Kind, Node};
 pub use engine::{start, step, stride, walk, Allowance, Counts, Ending, Made, Stride, Walked};
+pub use mend::mend;
 pub use rules::{check, Verdict};
 pub use table::{read_table, Balance, Claim, Table};
 

@@ -1,9 +1,11 @@
-//! What the programs `judge` and `walk` write.
+//! What the programs `judge`, `walk` and `mend` write.
 
+use std::fs::File;
 use std::io::{self, Read};
 
 use crate::array::read_array;
 use crate::engine::{start, walk_telling, Ending};
+use crate::mend::mend;
 use crate::rules::{check, Verdict};
 use crate::Refusal;
 
@@ -27,6 +29,15 @@ pub fn judge_text(array: &[u8], table: &[u8]) -> String {
             format!("rule {number}{place}\n")
         }
         Verdict::Refused(refusal) => refused_line(refusal),
+    }
+}
+
+/// The line of `mend`, and the mended table if there is one.
+pub fn mend_text(array: &[u8], table: &[u8]) -> (String, Option<Vec<u8>>) {
+    let mut output = vec![0; table.len()];
+    match mend(array, table, &mut output) {
+        Ok(bits) => (format!("mended {bits}\n"), Some(output)),
+        Err(refusal) => (refused_line(refusal), None),
     }
 }
 
@@ -62,6 +73,11 @@ pub fn walk_text(file: &[u8]) -> String {
         }
         Err(refusal) => refused_line(refusal),
     }
+}
+
+/// What a file has. One that can't be opened or read counts as empty.
+pub fn contents(path: &str, longest: usize) -> Vec<u8> {
+    File::open(path).and_then(|file| read_up_to(file, longest)).unwrap_or_default()
 }
 
 /// Reads at most one byte more than the longest file. A longer file is

@@ -165,7 +165,7 @@ fn met(table: &Table, set: &[usize]) -> bool {
 }
 
 /// The in and resource nodes, and the out nodes, in rising order.
-fn agents(array: &Array) -> (Vec<usize>, Vec<usize>) {
+pub(crate) fn agents(array: &Array) -> (Vec<usize>, Vec<usize>) {
     let nodes = array.nodes();
     let receivers = (0..nodes.len()).filter(|i| nodes[*i].is_receiver()).collect();
     let senders = (0..nodes.len()).filter(|i| nodes[*i].is_sender()).collect();

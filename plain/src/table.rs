@@ -7,7 +7,7 @@ use crate::{refuse, refuse_at, Refusal};
 pub const MOST_BALANCES: usize = 24;
 pub const MOST_CLAIMS: usize = 256;
 pub const LONGEST_TABLE: usize = 59_516;
-const ROW: usize = 32;
+pub(crate) const ROW: usize = 32;
 const CLAIM: usize = 8;
 const TRAILER: usize = 28;
 
@@ -61,6 +61,19 @@ impl Table {
     /// The flow row of a name, empty past the last name.
     pub fn row(&self, name: usize) -> Names {
         self.rows.get(name).copied().unwrap_or_default()
+    }
+
+    /// Adds to the flow row of a name, and gives the number of bits that were
+    /// missing. Past the last name there is no row.
+    pub(crate) fn add_to_row(&mut self, name: usize, more: &Names) -> usize {
+        match self.rows.get_mut(name) {
+            Some(row) if !more.within(row) => {
+                let before = row.count();
+                row.add_all(more);
+                row.count() - before
+            }
+            _ => 0,
+        }
     }
 
     pub fn balances(&self) -> &[Balance] {

@@ -24,7 +24,8 @@ use Rattle.pairs.specs.Pairs.{Setting, Given, Held, arrayIn, tableIn, pairsAt, 
 use Rattle.pairs.proofs.Laws.{near, alive, live-near, arities, live-shares}
 use Rattle.pairs.proofs.ByDifference.{light}
 use Rattle.pairs.proofs.Search.{sound-row}
-use Rattle.senders.specs.Sets.{arityMark, Family, family, Room, Covers, Collected, Linked, Gathered}
+use Rattle.senders.specs.Sets.{everyName, arityMark, Family, family, Room, Covers, Collected, Linked, Gathered}
+use Rattle.senders.proofs.Laws.{sends-any}
 use Rattle.filter.specs.Filter.{mayCome, figuresPass, SetSound, Sound}
 
 -- a pair that is not live, or at which the rule holds, breaks nothing
@@ -71,20 +72,21 @@ module _ (rule : ℕ) {S : Setting} (given : Given S) {p : Side} (hp : Held S p)
 module _ (rule : ℕ) (S : Setting) (F : Family) (links : List ℕ) (p : Side) where
   -- the sets below n, whichever sets the lists stand for
   abbrev pub SetsSound : ℕ → Type 0
-  SetsSound n = (sets : ℕ → ℕ) → Collected rule S F sets (S .t .nodes) → Linked (S .f) (S .t) sets links
+  SetsSound n = (sets : ℕ → ℕ) → Collected rule S everyName F sets (S .t .nodes) → Linked (S .f) (S .t) everyName sets links
       → (g : ℕ) → g < n → SetSound rule S sets p g
 
   pub sets-more : (n : ℕ) → SetsSound n
-      → ((sets : ℕ → ℕ) → Collected rule S F sets (S .t .nodes) → Linked (S .f) (S .t) sets links → SetSound rule S sets p n) → SetsSound (n + 1)
+      → ((sets : ℕ → ℕ) → Collected rule S everyName F sets (S .t .nodes) → Linked (S .f) (S .t) everyName sets links → SetSound rule S sets p n) → SetsSound (n + 1)
   sets-more n before here sets all linked g h =
       elim (decided (eqb g n)) [
         | inl e ↦ rw (eqb-true g n e) (here sets all linked)
         | inr e ↦ before sets all linked g (omega (arith, h, eqb-false g n e))
       ]
 
-  -- each sender is in one of the sets
-  pub sets-done : Gathered rule S F links → SetsSound 12 → Sound rule S p
-  sets-done k all q hq sends = all (k .sets) (k .collected) (k .linked) (k .sets (q .number)) (k .few (q .number)) q hq sends refl
+  -- each sender is in one of the sets: every name is marked
+  pub sets-done : Given S → Gathered rule S everyName F links → SetsSound 12 → Sound rule S p
+  sets-done given k all q hq sends =
+      all (k .sets) (k .collected) (k .linked) (k .sets (q .number)) (k .few (q .number)) q hq (sends-any given hq sends) refl
 
 -- ---- a node
 

@@ -14,7 +14,7 @@ use Rattle.records.specs.Record.{nodeOf}
 use Rattle.loads.specs.Loads.{entryIndex, loadIn}
 use Rattle.pairs.specs.declared.Side.{Side}
 use Rattle.pairs.specs.Pairs.{Setting, Held, goneOf, breaksPair}
-use Rattle.senders.specs.Sets.{arityMark, sentRow}
+use Rattle.senders.specs.Sets.{everyName, sendsBy, arityMark, sentRow}
 
 -- set g has a sender of the receiver's arity, and a channel whose row shares a bit with the receiver's
 abbrev pub mayCome : List ℕ → List ℕ → List ℕ → ℕ → Side → Bool
@@ -52,7 +52,7 @@ NeedRows n needs loads g i l = (k : ℕ) → k < n → NeedRow needs loads g i l
 
 -- the senders of set g
 abbrev pub SetSound : ℕ → Setting → (ℕ → ℕ) → Side → ℕ → Type 0
-SetSound rule S sets p g = (q : Side) → Held S q → isOut (nodeOf (q .node)) ≡ true → sets (q .number) ≡ g → breaksPair rule S p q ≡ false
+SetSound rule S sets p g = (q : Side) → Held S q → sendsBy everyName (q .node) ≡ true → sets (q .number) ≡ g → breaksPair rule S p q ≡ false
 
 -- all senders
 abbrev pub Sound : ℕ → Setting → Side → Type 0

@@ -1,6 +1,6 @@
 // Which receiver is the first that may be in a live pair that breaks rule 3 or 4: sets of senders are asked before single senders.
 // Promises that nothing is found below it: its contract goes one way, and the search over pairs says the rest. Depends on senders (the sets), pairs
-// (a pair alone), loads, arrays, records, marks, wire, model and laws. The lists of the sets take 6,712 bytes of stack.
+// (a pair alone), loads, arrays, records, marks, wire, model and laws. The lists of the sets take 6,744 bytes of stack.
 ghost use mathlib.Core.Path.{_≡_};
 ghost use mathlib.Core.Bool.{true};
 ghost use Prim.Native.Nat.{ℕ, _<_, _≤_};
@@ -11,14 +11,14 @@ ghost use Rattle.records.specs.Record.{nodeOf, arrayOf};
 ghost use Rattle.records.specs.Kinds.{isReceiver};
 ghost use Rattle.arrays.specs.Agents.{Reads};
 ghost use Rattle.pairs.specs.Pairs.{listTable, setting, Given, pairsAt, Screened};
-ghost use Rattle.senders.specs.Sets.{family, Room, Collected, Linked, Gathered};
+ghost use Rattle.senders.specs.Sets.{everyName, family, Room, Collected, Linked, Gathered};
 ghost use Rattle.filter.specs.Filter.{mayCome, argInside, needMet, figuresPass, ArgRows, NeedRows, SetSound, Sound};
 use pairs::Side;
 use records::Record;
 use records::Trailer;
 
 // A sender of set g may reach receiver p.
-fn may_come(unions: &[u64], arities: &[u64], rows: &[u64], g: usize, p: Side) -> bool
+pub fn may_come(unions: &[u64], arities: &[u64], rows: &[u64], g: usize, p: Side) -> bool
     requires { ⌜ (g < 12) × (p .node .arity ≤ 8) × (length (now arities) ≡ 4) × HasRow (now unions) g × HasRow (now rows) (p .node .name) ⌝ }
     ensures { λ b. ⌜ b ≡ mayCome (now (unions .entry)) (now (arities .entry)) (now (rows .entry)) g p ⌝ }
 {
@@ -29,7 +29,7 @@ fn may_come(unions: &[u64], arities: &[u64], rows: &[u64], g: usize, p: Side) ->
 }
 
 // Rule 3 beside all that set g sends.
-fn args_inside(unions: &[u64], rows: &[u64], g: usize, r: Record) -> bool
+pub fn args_inside(unions: &[u64], rows: &[u64], g: usize, r: Record) -> bool
     requires { ⌜ (g < 12) × ArgRows (now unions) (now rows) g r ⌝ }
     ensures { λ b. ⌜ b ≡ every (r .arity) (argInside (now (unions .entry)) (now (rows .entry)) g (r .args)) ⌝ }
 {
@@ -117,7 +117,7 @@ fn members_pass(
 ) -> bool
     requires { ⌜ Given (setting (now file) t balances (now rows) (now loads) (now bounds)) × (length (now links) ≡ 1036) × (g < 12) ⌝ }
     requires { ⌜ Reads (now file) t (p .number) (p .node) × (isReceiver (nodeOf (p .node)) ≡ true) ⌝ }
-    ensures { λ b. ⌜ (b ≡ true → (sets : ℕ → ℕ) → Linked (now (file .entry)) t sets (now (links .entry))
+    ensures { λ b. ⌜ (b ≡ true → (sets : ℕ → ℕ) → Linked (now (file .entry)) t everyName sets (now (links .entry))
         → SetSound rule (setting (now (file .entry)) t balances (now (rows .entry)) (now (loads .entry)) (now (bounds .entry))) sets p g) ⌝ }
 {
     let mut gives = [0u32; 24];
@@ -165,8 +165,8 @@ fn set_passes(
     requires { ⌜ Reads (now file) t (p .number) (p .node) × (isReceiver (nodeOf (p .node)) ≡ true) ⌝ }
     ensures { λ b. ⌜ (b ≡ true → (sets : ℕ → ℕ)
         → Collected rule (setting (now (file .entry)) t balances (now (rows .entry)) (now (loads .entry)) (now (bounds .entry)))
-        (family (now (needs .entry)) (now (unions .entry)) (now (arities .entry))) sets (t .nodes)
-        → Linked (now (file .entry)) t sets (now (links .entry))
+        everyName (family (now (needs .entry)) (now (unions .entry)) (now (arities .entry))) sets (t .nodes)
+        → Linked (now (file .entry)) t everyName sets (now (links .entry))
         → SetSound rule (setting (now (file .entry)) t balances (now (rows .entry)) (now (loads .entry)) (now (bounds .entry))) sets p g) ⌝ }
 {
     if !may_come(unions, arities, rows, g, p) {
@@ -198,8 +198,8 @@ fn passes(
     p: Side,
 ) -> bool
     requires { ⌜ Given (setting (now file) t balances (now rows) (now loads) (now bounds)) ⌝ }
-    requires { ⌜ Gathered rule (setting (now file) t balances (now rows) (now loads) (now bounds)) (family (now needs) (now unions) (now arities))
-        (now links) ⌝ }
+    requires { ⌜ Gathered rule (setting (now file) t balances (now rows) (now loads) (now bounds)) everyName
+        (family (now needs) (now unions) (now arities)) (now links) ⌝ }
     requires { ⌜ Reads (now file) t (p .number) (p .node) × (isReceiver (nodeOf (p .node)) ≡ true) ⌝ }
     ensures { λ b. ⌜ (b ≡ true → Sound rule (setting (now (file .entry)) t balances (now (rows .entry)) (now (loads .entry)) (now (bounds .entry))) p) ⌝ }
 {
@@ -245,8 +245,8 @@ fn node_passes(
     i: usize,
 ) -> bool
     requires { ⌜ Given (setting (now file) t balances (now rows) (now loads) (now bounds)) × (i < t .nodes) ⌝ }
-    requires { ⌜ Gathered rule (setting (now file) t balances (now rows) (now loads) (now bounds)) (family (now needs) (now unions) (now arities))
-        (now links) ⌝ }
+    requires { ⌜ Gathered rule (setting (now file) t balances (now rows) (now loads) (now bounds)) everyName
+        (family (now needs) (now unions) (now arities)) (now links) ⌝ }
     ensures { λ b. ⌜ (b ≡ true → pairsAt rule (arrayOf (now (file .entry)) t)
         (listTable (now (rows .entry)) (now (loads .entry)) (now (bounds .entry)) balances) i ≡ clear) ⌝ }
 {
@@ -292,8 +292,8 @@ fn sift(
 ) -> usize
     requires { ⌜ Given (setting (now file) t balances (now rows) (now loads) (now bounds)) × (from ≤ t .nodes)
         × Screened rule (arrayOf (now file) t) (listTable (now rows) (now loads) (now bounds) balances) from ⌝ }
-    requires { ⌜ Gathered rule (setting (now file) t balances (now rows) (now loads) (now bounds)) (family (now needs) (now unions) (now arities))
-        (now links) ⌝ }
+    requires { ⌜ Gathered rule (setting (now file) t balances (now rows) (now loads) (now bounds)) everyName
+        (family (now needs) (now unions) (now arities)) (now links) ⌝ }
     ensures { λ n. ⌜ (n ≤ t .nodes) × Screened rule (arrayOf (now (file .entry)) t)
         (listTable (now (rows .entry)) (now (loads .entry)) (now (bounds .entry)) balances) n ⌝ }
 {
@@ -339,6 +339,7 @@ fn ask(
     ensures { λ n. ⌜ (n ≤ t .nodes) × Screened rule (arrayOf (now (file .entry)) t)
         (listTable (now (rows .entry)) (now (loads .entry)) (now (bounds .entry)) balances) n ⌝ }
 {
+    let names = [18446744073709551615u64; 4];
     let mut needs = [0u32; 288];
     let mut unions = [0u64; 432];
     let mut arities = [0u64; 4];
@@ -346,6 +347,7 @@ fn ask(
     senders::gather(
         rule,
         deep,
+        &names,
         &mut needs,
         &mut unions,
         &mut arities,

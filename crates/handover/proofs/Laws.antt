@@ -14,7 +14,7 @@ use Rattle.laws.proofs.Lists.{All-at}
 use Rattle.model.specs.Formed as F
 use Rattle.model.specs.Rules as M
 use Rattle.model.specs.Calculus.{Choices, Attempt, calculus, run}
-use Rattle.model.specs.Rules.{inSet, Each, Named, SetsAgree, Rising, FirstBroken, at, verdict}
+use Rattle.model.specs.Rules.{inSet, Each, Rules, Named, SetsAgree, Rising, FirstBroken, at, verdict}
 use Rattle.model.specs.Safe.{setSum, Safe}
 use Rattle.model.proofs.Tree.{agent-inside}
 use Rattle.model.proofs.Verdict.{held-rules, first-broken, first5}
@@ -111,6 +111,19 @@ judged-listed : (f s : List ℕ) (n p : ℕ) → judged f s ≡ refused n p → 
 unfolding judged
 judged-listed f s n p e = reply-listed TableNumber (filesRefusal f s) _ (files-small f s) n p e
 
+-- no rule is named exactly where held is said
+held-after : (x : M.Verdict) (z : Sizes) → IsHeld (done (afterRules x (held z))) ↔ (x ≡ clear)
+held-after clear z = (λ h. refl, λ e. tt)
+held-after (hit b) z = (λ h. absurd h, λ e. clear-hit _ (sym e))
+
+-- demand 2: a table that no refusal meets is held exactly when the five rules hold
+pub held-exactly : (f s : List ℕ) → filesRefusal f s ≡ clear → IsHeld (judged f s) ↔ Rules (arrayIn f) (tableIn f s)
+unfolding judged
+held-exactly f s e =
+    let both = held-rules (arrayIn f) (tableIn f s) in
+    let after = held-after (verdict (arrayIn f) (tableIn f s)) (sizesIn f s) in
+    rw e (λ h. both .0 (after .0 h), λ h. after .1 (both .1 h))
+
 -- the broken rule that an answer names, if any
 abbrev broken : Reply Outcome → M.Verdict
 broken (done (held z)) = clear
@@ -152,15 +165,6 @@ module _ (f s : List ℕ) where
     broken-ruled (R.Rule4 p q k) = refl
     broken-ruled (R.Rule5 c) = refl
 
-    -- a ruling is held exactly where its verdict says so
-    held-ruled : (x : Ruling) → IsHeld (says (verdictOf x (sizesIn f s))) ↔ (ruled x ≡ clear)
-    held-ruled R.Held = (λ h. refl, λ e. tt)
-    held-ruled (R.Rule1 o) = (λ h. absurd h, λ e. clear-hit _ (sym e))
-    held-ruled (R.Rule2 k) = (λ h. absurd h, λ e. clear-hit _ (sym e))
-    held-ruled (R.Rule3 p q n) = (λ h. absurd h, λ e. clear-hit _ (sym e))
-    held-ruled (R.Rule4 p q k) = (λ h. absurd h, λ e. clear-hit _ (sym e))
-    held-ruled (R.Rule5 c) = (λ h. absurd h, λ e. clear-hit _ (sym e))
-
     -- what refusals 21 and 30 leave of the claims
     named : Named (arrayIn f) (tableIn f s)
     named = claims-named (arrayIn f) (tableIn f s) (table .claims)
@@ -177,16 +181,16 @@ module _ (f s : List ℕ) where
     pub ruled-judges : (x : Ruling) → ruled x ≡ verdict (arrayIn f) (tableIn f s) → Judges f s (verdictOf x (sizesIn f s))
     unfolding judged
     ruled-judges x e =
-        let both = held-rules (arrayIn f) (tableIn f s) in
-        let none : IsHeld (says (verdictOf x (sizesIn f s))) → verdict (arrayIn f) (tableIn f s) ≡ clear = λ h. sym e ∙ held-ruled x .0 h in
         let a : says (verdictOf x (sizesIn f s)) ≡ judged f s = sym (rw (clear′, ← e) (ruled-says x)) in
+        let exact : IsHeld (says (verdictOf x (sizesIn f s))) ↔ Rules (arrayIn f) (tableIn f s) =
+        subst (λ y. IsHeld y ↔ Rules (arrayIn f) (tableIn f s)) (sym a) (held-exactly f s clear′) in
         let breaks : (n : ℕ) (l : List ℕ) → says (verdictOf x (sizesIn f s)) ≡ done (rule n l) → FirstBroken (arrayIn f) (tableIn f s) (at n l) =
         λ n figures h. first-broken (arrayIn f) (tableIn f s) (at n figures) (sym e ∙ sym (broken-ruled x) ∙ ap broken h) in
         let safe : IsHeld (says (verdictOf x (sizesIn f s))) → Demand3 f s =
-        λ h. demand3 (arrayIn f) (tableIn f s) (read .formed) (λ c k. named c k .1) (none h) in
+        λ h. demand3 (arrayIn f) (tableIn f s) (read .formed) (λ c k. named c k .1) (held-rules (arrayIn f) (tableIn f s) .1 (exact .0 h)) in
         record {
           answers = a;
-          exactly = λ u. (λ h. both .0 (none h), λ h. held-ruled x .1 (e ∙ both .1 h));
+          exactly = λ u. exact;
           breaks = breaks;
           names = λ c h. first-of-set (tableIn f s) agree c (first5 (arrayIn f) (tableIn f s) (c ∷ []) _ (breaks 5 (c ∷ []) h) refl);
           holds = safe;

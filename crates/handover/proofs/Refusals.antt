@@ -28,7 +28,7 @@ use Rattle.tables.specs.Read.{tableRefusal, filesRefusal}
 use Rattle.tables.proofs.Laws as L
 use Rattle.handover.specs.Front.{arrayIn}
 use Rattle.handover.specs.Engine.{startRefusal, lentRefusal}
-use Rattle.handover.specs.Refusals.{ArrayNumber, TableNumber, StartNumber, StepNumber, WalkNumber}
+use Rattle.handover.specs.Refusals.{ArrayNumber, TableNumber, MendNumber, StartNumber, StepNumber, WalkNumber}
 
 pub reads : (f : List ℕ) → arrayRefusal f ≡ clear → readArray f ≡ A.Read (trailerOf f)
 unfolding readArray
@@ -191,6 +191,10 @@ start-number a ch m n e = fate (fitted-fate a m (start (words []) a ch) [])
 pub table-few : (n : ℕ) → TableNumber n → n ≤ 39
 table-few n (inl h) = omega (arith, h .1)
 table-few n (inr h) = omega (arith, h .1)
+
+pub mend-few : (n : ℕ) → MendNumber n → n ≤ 39
+mend-few n (inl h) = table-few n h
+mend-few n (inr h) = omega arith
 
 pub start-few : (n : ℕ) → StartNumber n → n ≤ 39
 start-few n (inl h) = omega (arith, h .1)

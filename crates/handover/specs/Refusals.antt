@@ -1,6 +1,6 @@
 -- Answers in 01's numbers: what a call did, or its refusal; and the numbers that each entry may refuse by (01, "Refusals, in checking
 -- order"): "Table calls use 1 to 21, start 1 to 12, 22, 28, step 1 to 12 and 22 to 29, walk 1 to 12, 22, 23." Table calls use 30 and 31
--- too (02, requests i and ii). The walk told step by step refuses as the walk does.
+-- too (02, requests i and ii), and mending 32 (request iv). The walk told step by step refuses as the walk does.
 use Prim.Native.Nat.{ℕ, _≤_}
 use mathlib.Core.Path.{_≡_}
 use mathlib.Core.Logic.{_⊎_}
@@ -25,6 +25,10 @@ ArrayNumber n = (1 ≤ n) × (n ≤ 12)
 
 abbrev pub TableNumber : ℕ → Type 0
 TableNumber n = ((1 ≤ n) × (n ≤ 21)) ⊎ ((30 ≤ n) × (n ≤ 31))
+
+-- "32 .. checked after 31" (02, request iv)
+abbrev pub MendNumber : ℕ → Type 0
+MendNumber n = TableNumber n ⊎ (n ≡ 32)
 
 abbrev pub StartNumber : ℕ → Type 0
 StartNumber n = ArrayNumber n ⊎ ((n ≡ 22) ⊎ (n ≡ 28))

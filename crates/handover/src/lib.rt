@@ -7,6 +7,8 @@
 //                that is read beside the same array has the same rows, balances and claims
 //   check        specs/Front: refusals 1 to 21, 30 and 31, the first broken rule and its place, or held; held exactly when the five rules hold
 //                (demand 2), and then demand 3
+//   mend         specs/Mending: refusals 1 to 21, 30, 31 and 32, or the number of bits set; the output holds the table with the smallest rows that
+//                contain the given ones and meet rules 1 and 3
 //   start        specs/Engine: refusals 1 to 12, 22, 28, or the thread count; the list holds the calculus' start
 //   step         specs/Engine: refusals 1 to 12, 22 to 29, or the new counts; the lists hold the calculus' next configuration
 //   walk         specs/Engine: refusals 1 to 12, 22, 23, or the ending, the steps made and the counts
@@ -22,8 +24,12 @@ ghost use mathlib.Core.Path.{_≡_};
 ghost use mathlib.Core.List.{[]};
 ghost use Prim.Native.Nat.{_-_};
 ghost use Rattle.model.specs.Memory.{memory};
-ghost use Rattle.arrays.specs.File.{remarkOf, trailerOf, trailerAnswer};
+ghost use Rattle.laws.specs.Search.{clear};
+ghost use Rattle.arrays.specs.declared.ArrayAnswer.the-variants.{Read};
+ghost use Rattle.arrays.specs.File.{remarkOf, trailerOf, trailerAnswer, readArray};
+ghost use Rattle.tables.specs.Read.{tableRefusal};
 ghost use Rattle.handover.specs.Front.{ArrayPromise, TablePromise, Judges};
+ghost use Rattle.handover.specs.Mending.{MendPromise};
 ghost use Rattle.handover.specs.Engine.{startRefusal, StartPromise, StepPromise, WalkPromise, StridePromise};
 ghost use Rattle.handover.specs.Bodies.{verdictOf, strideAnswer};
 use arrays::ArrayAnswer;
@@ -38,6 +44,7 @@ use lent::Counts;
 use model::Ending;
 use records::Check;
 use records::Refusal;
+use records::Trailer;
 use rules::Ruling;
 use steps::Fired;
 use tables::TableAnswer;
@@ -50,6 +57,12 @@ pub enum Verdict {
     Rule3(usize, usize, usize),
     Rule4(usize, usize, usize),
     Rule5(usize),
+    Refused(Refusal),
+}
+
+// The number of bits set, or the first refusal with its place.
+pub enum MendAnswer {
+    Mended(usize),
     Refused(Refusal),
 }
 
@@ -125,6 +138,31 @@ pub fn check(array: &[u8], table: &[u8]) -> Verdict
                 let z = layout::read_sizes(t, table);
                 verdict_of(rules::judge(array, t, table, z), z)
             }
+        },
+    }
+}
+
+// Mends a table that was read beside its array, or refusal 32.
+fn mend_read(array: &[u8], t: Trailer, table: &[u8], output: &mut [u8]) -> MendAnswer
+    requires { ⌜ (readArray (now array) ≡ Read t) × (tableRefusal (now array) t (now table) ≡ clear) ⌝ }
+    ensures { λ x. ⌜ MendPromise (now (array .entry)) (now (table .entry)) (now (output .entry)) x (now (output .exit)) ⌝ }
+{
+    if output.len() < table.len() {
+        return MendAnswer::Refused(numbered(32));
+    }
+    let z = layout::read_sizes(t, table);
+    MendAnswer::Mended(mending::mend_table(output, array, t, table, z))
+}
+
+// Sets the bits that rules 1 and 3 ask for, and writes the mended table. A refusal changes no byte.
+pub fn mend(array: &[u8], table: &[u8], output: &mut [u8]) -> MendAnswer
+    ensures { λ x. ⌜ MendPromise (now (array .entry)) (now (table .entry)) (now (output .entry)) x (now (output .exit)) ⌝ }
+{
+    match arrays::read_array(array) {
+        ArrayAnswer::Refused(r) => MendAnswer::Refused(r),
+        ArrayAnswer::Read(t) => match tables::check_table(array, t, table) {
+            Check::Refused(r) => MendAnswer::Refused(r),
+            Check::Passed => mend_read(array, t, table, output),
         },
     }
 }

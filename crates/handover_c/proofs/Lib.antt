@@ -1,3 +1,4 @@
 pub mod Verdicts
 pub mod Replies
 pub mod Cases
+pub mod Mends

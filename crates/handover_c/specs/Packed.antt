@@ -8,12 +8,14 @@ use Rattle.model.specs.declared.Ending.the-variants.{Quiet, Spent, Full}
 use Rattle.model.specs.Memory.{Memory}
 use Rattle.lent.specs.declared.Counts.{Counts}
 use Rattle.engine.specs.declared.Walk.{Walk}
+use Rattle.handover.specs.declared.MendAnswer.{MendAnswer}
 use Rattle.handover.specs.declared.StartAnswer.{StartAnswer}
 use Rattle.handover.specs.declared.StepAnswer.{StepAnswer}
 use Rattle.handover.specs.declared.Verdict.{Verdict}
 use Rattle.handover.specs.declared.WalkAnswer.{WalkAnswer}
 use Rattle.handover.specs.Front.{Outcome, held, rule, judged, Judges, Demand3, SetsBounded}
-use Rattle.handover.specs.Refusals.{Reply, done, refused, TableNumber, StartNumber, StepNumber, WalkNumber}
+use Rattle.handover.specs.Refusals.{Reply, done, refused, TableNumber, MendNumber, StartNumber, StepNumber, WalkNumber}
+use Rattle.handover.specs.Mending.{mendReply, mendOutput, MendPromise}
 use Rattle.handover.specs.Engine.{Left, startOf, stepOf, walkOf, StartPromise, StepPromise, WalkPromise}
 
 -- ---- the numbers
@@ -46,6 +48,10 @@ abbrev pub packedOutcome : Outcome → ℕ
 packedOutcome (held z) = 0
 packedOutcome (rule r figures) = r + packedPlace figures
 
+-- mended: "code 0 plus 2^8 times the number of bits"
+abbrev pub packedMend : ℕ → ℕ
+packedMend n = 2 ^ 8 * n
+
 -- a start lists no marker and makes no step; a step makes one; a walk tells how many
 abbrev pub packedStart : ℕ → ℕ
 packedStart k = counted 0 k 0 0
@@ -68,6 +74,10 @@ FitsFigures figures = (getD figures 0 0 < 2 ^ 16) × (getD figures 1 0 < 2 ^ 16)
 abbrev pub FitsOutcome : Outcome → Type 0
 FitsOutcome (held z) = Unit {0}
 FitsOutcome (rule r figures) = (1 ≤ r) × (r ≤ 5) × FitsFigures figures
+
+-- 256 rows have 65,536 bits
+abbrev pub FitsMend : ℕ → Type 0
+FitsMend n = n ≤ 65536
 
 abbrev pub FitsCounts : ℕ → ℕ → Type 0
 FitsCounts threads markers = (threads < 2 ^ 10) × (markers < 2 ^ 14)
@@ -95,6 +105,13 @@ pub record ChecksInC (f s : List ℕ) (r : ℕ) : Type 0 where
   -- demand 3, and 02's sentence on sets (request i)
   pub holds : r ≡ 0 → Demand3 f s
   pub bounds : r ≡ 0 → SetsBounded f s
+
+-- the number, and every byte of the output
+pub record MendsInC (f s out : List ℕ) (r : ℕ) (left : List ℕ) : Type 0 where
+  pub returns : r ≡ packedReply packedMend (mendReply f s out)
+  pub fits : FitsReply FitsMend MendNumber (mendReply f s out)
+  pub leaves : left ≡ mendOutput f s out
+  pub promise : (x : MendAnswer) × MendPromise f s out x left
 
 -- the number, and every word of both lists
 pub record Leaves {A : Type 0} (Q : A → Type 0) (P : ℕ → Type 0) (f : A → ℕ) (o : Left A) (r : ℕ) (l ml : List ℕ) : Type 0 where

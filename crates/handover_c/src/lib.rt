@@ -9,11 +9,13 @@ ghost use lib.ListN.{length};
 ghost use Rattle.arrays.specs.File.{remarkOf};
 ghost use Rattle.model.specs.Memory.{memory};
 ghost use Rattle.handover.specs.Front.{says};
-ghost use Rattle.handover.specs.Refusals.{TableNumber, StartNumber, StepNumber, WalkNumber};
+ghost use Rattle.handover.specs.Refusals.{TableNumber, MendNumber, StartNumber, StepNumber, WalkNumber};
+ghost use Rattle.handover.specs.Mending.{saysMend};
 ghost use Rattle.handover.specs.Engine.{saysStart, saysStep, saysWalk};
-ghost use Rattle.handover_c.specs.Packed.{packedReply, packedOutcome, packedStart, packedStep, packedWalk, denied, counted, ending};
-ghost use Rattle.handover_c.specs.Packed.{FitsReply, FitsOutcome, FitsCounts, FitsStart, FitsStep, FitsWalk};
-ghost use Rattle.handover_c.specs.Packed.{ChecksInC, StartsInC, StepsInC, WalksInC};
+ghost use Rattle.handover_c.specs.Packed.{packedReply, packedOutcome, packedMend, packedStart, packedStep, packedWalk, denied, counted, ending};
+ghost use Rattle.handover_c.specs.Packed.{FitsReply, FitsOutcome, FitsMend, FitsCounts, FitsStart, FitsStep, FitsWalk};
+ghost use Rattle.handover_c.specs.Packed.{ChecksInC, MendsInC, StartsInC, StepsInC, WalksInC};
+use handover::MendAnswer;
 use handover::StartAnswer;
 use handover::StepAnswer;
 use handover::Verdict;
@@ -73,6 +75,17 @@ fn pack_verdict(v: Verdict) -> u64
     }
 }
 
+// The number of a mending's answer.
+fn pack_mend(x: MendAnswer) -> u64
+    requires { ⌜ FitsReply FitsMend MendNumber (saysMend x) ⌝ }
+    ensures { λ r. ⌜ r ≡ packedReply packedMend (saysMend x) ⌝ }
+{
+    match x {
+        MendAnswer::Mended(bits) => 256 * bits as u64,
+        MendAnswer::Refused(r) => pack_refusal(r),
+    }
+}
+
 // The number of a start's answer.
 fn pack_start(x: StartAnswer) -> u64
     requires { ⌜ FitsReply FitsStart StartNumber (saysStart x) ⌝ }
@@ -122,6 +135,15 @@ pub extern "C" fn handover_check(array: &[u8], table: &[u8]) -> u64
     ensures { λ r. ⌜ ChecksInC (now (array .entry)) (now (table .entry)) r ⌝ }
 {
     pack_verdict(handover::check(array, table))
+}
+
+// Writes the mended table into the output. A refusal changes no byte.
+#[no_mangle]
+pub extern "C" fn handover_mend(array: &[u8], table: &[u8], output: &mut [u8]) -> u64
+    ensures { λ r. ⌜ MendsInC (now (array .entry)) (now (table .entry)) (now (output .entry)) r (now (output .exit)) ⌝ }
+{
+    let answer = handover::mend(array, table, output);
+    pack_mend(answer)
 }
 
 // Writes the start into the thread list. A refusal changes no word.

@@ -37,18 +37,18 @@ first-alike {n} e f g same = first-same n f g same ∙ ap (λ (m : ℕ). first m
 -- ---- agents, from their trees
 
 -- what is known of agent p at node i
-record Known (a : Array) (i : ℕ) (p : Agent) : Type 0 where
-  agent : isAgent (nodeAt a i) ≡ true
-  channel : p .channel < a .names
-  args : (n : ℕ) → getD (p .args) n 0 < a .names
-  body : Wf a (p .body)
+pub record Known (a : Array) (i : ℕ) (p : Agent) : Type 0 where
+  pub agent : isAgent (nodeAt a i) ≡ true
+  pub channel : p .channel < a .names
+  pub args : (n : ℕ) → getD (p .args) n 0 < a .names
+  pub body : Wf a (p .body)
 
 module _ (a : Array) (ok : WellFormed a) where
   tree-agent : (i : ℕ) {s : Sort} {x : ℕ} {ys : List ℕ} {p : Proc} → AgentWf a i s x ys p → isAgent (nodeAt a i) ≡ true
   unfolding agentAt asAgent
   tree-agent i h = acts-agent a (ok .children) i _ (ap asAgent (h .here))
 
-  known : (i : ℕ) (p : Agent) → agentAt a i ≡ some p → Known a i p
+  pub known : (i : ℕ) (p : Agent) → agentAt a i ≡ some p → Known a i p
   known i p e =
       let w = rw (agent-tree a (ok .children) i p e) at (wf-procAt a (ok .children) (ok .named) i (agent-below a i p e)) in
       let c = w .0 .channel in

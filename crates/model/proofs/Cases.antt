@@ -2,7 +2,7 @@
 use Prim.Native.Nat.{ℕ, zero, suc, _≤_, _<_}
 use mathlib.Core.Path.{_≡_, refl, sym, ap, subst, _∙_}
 use mathlib.Core.Logic.{_⊎_, inl, inr, ⊎-elim}
-use mathlib.Core.Bool.{Bool, true, false, _||_, false≢true, true≢false}
+use mathlib.Core.Bool.{Bool, true, false, not, _||_, false≢true, true≢false}
 use mathlib.Core.List.{List, [], _∷_}
 use mathlib.Core.Option.{Option, none, some}
 use lib.Dec.{eqb}
@@ -13,7 +13,7 @@ use Rattle.laws.specs.Search as F
 use Rattle.laws.specs.Search.{Found, clear, hit}
 use Rattle.laws.specs.Lists as L
 use Rattle.laws.specs.Lists.{All}
-use Rattle.laws.proofs.Search.{or-split, clear-hit}
+use Rattle.laws.proofs.Search.{or-split, clear-hit, implies, every-true}
 use Rattle.model.specs.Tree as T
 use Rattle.model.specs.Formed as W
 use Rattle.model.specs.Formed.{WellFormed}
@@ -25,18 +25,22 @@ use Rattle.model.specs.Memory as M
 use Rattle.model.specs.declared.Ending.the-variants.{Quiet, Spent, Full}
 use Rattle.model.specs.Memory.{Result, stops, leaves, standsFor}
 use Rattle.model.specs.Rules as U
-use Rattle.model.specs.Rules.{Table, Live, Rule2, Rule3, Rule4At, ClaimsFit, Broken, at, verdict}
+use Rattle.model.specs.Rules.{Table, rowBits, Live, Each, Rule2, Rule3, Rule4At, ClaimsFit, Broken, at, verdict}
 use Rattle.model.specs.Rules.{FirstPair, FirstBroken, broken1, broken2, broken3, broken4, broken5}
 use Rattle.model.specs.declared.Claim.{Claim}
+use Rattle.model.specs.Mend as Y
+use Rattle.model.specs.Mend.{Rows, withRows, Contained, Mends, Smallest, mended, bitsSet}
 use Rattle.model.specs.Safe as Z
 use Rattle.model.specs.Safe.{Safe, Flows}
 use Rattle.model.specs.Cases.{A, B, D, tableA, table, claim, claimIn, rowsA, weightsA}
 use Rattle.model.specs.Cases.{limits, brimful, joint, tableD, opened, thread, threeOfA, twiceBroken, H, tableH}
-use Rattle.model.proofs.Verdict.{live-Live, first5}
+use Rattle.model.specs.Cases.{E, rowsOf, flowA, flowE}
+use Rattle.model.proofs.Verdict.{live-Live, held-rules, first5}
 use Rattle.model.specs.Cases.{pair, lists, walkEnded, A₁, B₀, B₁, B₁₂, B₂, B₃, B₄, G, G₁, G₂, Row, Says}
-use Rattle.model.specs.Cases.{rows, setRows, sameRows, safeRows, stepRows, walkRows, toldRows, laterRows}
+use Rattle.model.specs.Cases.{rows, setRows, sameRows, safeRows, stepRows, walkRows, toldRows, laterRows, mendRows}
 use Rattle.model.proofs.Safety.{demand3}
 use Rattle.model.proofs.Alike.{placed, same-by}
+use Rattle.model.proofs.Mend.{mended-smallest, smallest-same, bits-same}
 
 -- Whoever unfolds this unfolds every definition of the model.
 computed : Unit {0}
@@ -51,6 +55,7 @@ unfolding F.test F.andThen F.under F.first F.every F.any F.sum F.least L.one L.a
     M.store M.fitted M.startIn M.onAnswer M.stepIn M.isNext M.firstReady M.onPair M.onStep M.walkIn
     U.together U.inSet U.leastWeight
     U.within U.shareBit U.fitBoth U.live U.taken U.onLive U.pairs U.check1 U.check2 U.arguments3 U.check3 U.balances4 U.check4 U.check5 U.verdict
+    Y.bitsSet
 computed = tt
 
 -- ---- safe and not
@@ -391,6 +396,123 @@ kept-claim : Says (Row.notFirst A tableA (at 5 (0 ∷ [])))
 unfolding computed table
 kept-claim b = first5 A tableA (0 ∷ []) _ b refl .fails (omega arith)
 
+-- ---- mended rows
+
+-- rows that a test finds contained in others
+contained-by : (a : Array) (r s : Rows) → F.every (a .names) (λ v. F.every rowBits λ o. not (r v o) || s v o) ≡ true → Contained a r s
+contained-by a r s e v h o l = implies _ _ (every-true rowBits _ (every-true (a .names) _ e v h) o l)
+
+only : (x o : ℕ) → L.has (x ∷ []) o ≡ true → o ≡ x
+unfolding L.has
+only x o e = ⊎-elim (λ h. eqb-true o x h) (λ h. absurd (false≢true h)) (or-split (eqb o x) false e)
+
+-- what every choice of rows for A has, and for E where its pair lives
+record AsksA (s : Rows) : Type 0 where
+  first : s 0 0 ≡ true
+  second : s 1 1 ≡ true
+  third : s 2 1 ≡ true
+
+asksA : (l : List (List ℕ)) (s : Rows) → Mends A (flowA l) s → AsksA s
+unfolding computed table
+asksA l s m =
+    let r₀ = m .rule1 0 (omega arith) refl in
+    let r₁ = m .rule1 1 (omega arith) refl in
+    let lives : Live (withRows (flowA l) s) 5 3 (agentIn (T.agentAt A 5)) (agentIn (T.agentAt A 3)) = record {
+      receiver = refl;
+      sender = refl;
+      arities = refl;
+      shares = (0, omega arith, r₀, r₀);
+      fits = λ k h. let z : 1 ≤ 1 = omega arith in z;
+    } in
+    record { first = r₀; second = r₁; third = m .rule3 5 (omega arith) 3 (omega arith) _ _ refl refl lives 0 (omega arith) 1 (omega arith) r₁ }
+
+leastA : (s : Rows) → AsksA s → Contained A (rowsOf rowsA) s
+leastA s k zero h o l e = subst (λ x. s 0 x ≡ true) (sym (only 0 o e)) (k .first)
+leastA s k (suc zero) h o l e = subst (λ x. s 1 x ≡ true) (sym (only 1 o e)) (k .second)
+leastA s k (suc (suc zero)) h o l e = subst (λ x. s 2 x ≡ true) (sym (only 1 o e)) (k .third)
+leastA s k (suc (suc (suc v))) h o l e = absurd (omega arith)
+
+-- rows below A's own are mended to them
+mendsA : (l : List (List ℕ)) → Contained A (rowsOf l) (rowsOf rowsA) → Smallest A (flowA l) (rowsOf rowsA)
+unfolding computed table
+mendsA l c =
+    let r = held-rules A tableA .0 refl in
+    record { mends = record { contains = c; rule1 = r .rule1; rule3 = r .rule3 }; least = λ s m. leastA s (asksA l s m) }
+
+mend-two : Says (Row.smallest A (flowA ((0 ∷ []) ∷ [] ∷ [] ∷ [])) rowsA 2)
+unfolding computed table
+mend-two = (mendsA ((0 ∷ []) ∷ [] ∷ [] ∷ []) (contained-by A _ _ refl), refl)
+
+mend-three : Says (Row.smallest A (flowA ([] ∷ [] ∷ [] ∷ [])) rowsA 3)
+unfolding computed table
+mend-three = (mendsA ([] ∷ [] ∷ [] ∷ []) (contained-by A _ _ refl), refl)
+
+mend-none : Says (Row.smallest A tableA rowsA 0)
+unfolding computed table
+mend-none = (mendsA rowsA (contained-by A _ _ refl), refl)
+
+-- a given bit stays
+abbrev wide : List (List ℕ)
+wide = (0 ∷ 1 ∷ []) ∷ (1 ∷ []) ∷ (1 ∷ []) ∷ []
+
+mend-wide : Says (Row.smallest A (flowA ((0 ∷ 1 ∷ []) ∷ [] ∷ [] ∷ [])) wide 2)
+unfolding computed table
+mend-wide =
+    let r = held-rules A (flowA wide) .0 refl in
+    (record { mends = record { contains = contained-by A _ _ refl; rule1 = r .rule1; rule3 = r .rule3 }; least = least }, refl)
+  where
+    least : (s : Rows) → Mends A (flowA ((0 ∷ 1 ∷ []) ∷ [] ∷ [] ∷ [])) s → Contained A (rowsOf wide) s
+    least s m zero h o l e = m .contains 0 h o l e
+    least s m (suc v) h o l e = leastA s (asksA ((0 ∷ 1 ∷ []) ∷ [] ∷ [] ∷ []) s m) (suc v) h o l e
+
+-- E, whose pair lives under the greater bound only
+mend-apart : Says (Row.smallest E (flowE 1 ((0 ∷ []) ∷ [] ∷ [] ∷ [])) ((0 ∷ []) ∷ (1 ∷ []) ∷ [] ∷ []) 1)
+unfolding computed table
+mend-apart =
+    let r = held-rules E (flowE 1 ((0 ∷ []) ∷ (1 ∷ []) ∷ [] ∷ [])) .0 refl in
+    (record { mends = record { contains = contained-by E _ _ refl; rule1 = r .rule1; rule3 = r .rule3 }; least = least }, refl)
+  where
+    least : (s : Rows) → Mends E (flowE 1 ((0 ∷ []) ∷ [] ∷ [] ∷ [])) s → Contained E (rowsOf ((0 ∷ []) ∷ (1 ∷ []) ∷ [] ∷ [])) s
+    least s m zero h o l e = m .contains 0 h o l e
+    least s m (suc zero) h o l e = subst (λ x. s 1 x ≡ true) (sym (only 1 o e)) (m .rule1 1 h refl)
+    least s m (suc (suc zero)) h o l e = absurd (false≢true e)
+    least s m (suc (suc (suc v))) h o l e = absurd (omega arith)
+
+mend-meeting : Says (Row.smallest E (flowE 2 ((0 ∷ []) ∷ [] ∷ [] ∷ [])) ((0 ∷ []) ∷ (1 ∷ []) ∷ (1 ∷ []) ∷ []) 2)
+unfolding computed table
+mend-meeting =
+    let r = held-rules E (flowE 2 rowsA) .0 refl in
+    (record { mends = record { contains = contained-by E _ _ refl; rule1 = r .rule1; rule3 = r .rule3 }; least = λ s m. leastA s (asks s m) }, refl)
+  where
+    asks : (s : Rows) → Mends E (flowE 2 ((0 ∷ []) ∷ [] ∷ [] ∷ [])) s → AsksA s
+    asks s m =
+        let r₀ = m .rule1 0 (omega arith) refl in
+        let r₁ = m .rule1 1 (omega arith) refl in
+        let lives : Live (withRows (flowE 2 ((0 ∷ []) ∷ [] ∷ [] ∷ [])) s) 4 3 (agentIn (T.agentAt E 4)) (agentIn (T.agentAt E 3)) = record {
+          receiver = refl;
+          sender = refl;
+          arities = refl;
+          shares = (0, omega arith, r₀, r₀);
+          fits = λ k h. let z : 2 ≤ 2 = omega arith in z;
+        } in
+        record { first = r₀; second = r₁; third = m .rule3 4 (omega arith) 3 (omega arith) _ _ refl refl lives 0 (omega arith) 1 (omega arith) r₁ }
+
+lacks-rule1 : Says (Row.notSmallest A (flowA ((0 ∷ []) ∷ [] ∷ [] ∷ [])) ((0 ∷ []) ∷ [] ∷ [] ∷ []))
+unfolding computed table
+lacks-rule1 s = false≢true (s .mends .rule1 1 (omega arith) refl)
+
+lacks-rule3 : Says (Row.notSmallest A (flowA ((0 ∷ []) ∷ [] ∷ [] ∷ [])) ((0 ∷ []) ∷ (1 ∷ []) ∷ [] ∷ []))
+unfolding computed table
+lacks-rule3 s = false≢true (asksA ((0 ∷ []) ∷ [] ∷ [] ∷ []) _ (s .mends) .third)
+
+lacks-given : Says (Row.notSmallest A (flowA ((0 ∷ 1 ∷ []) ∷ [] ∷ [] ∷ [])) rowsA)
+unfolding computed table
+lacks-given s = false≢true (s .mends .contains 0 (omega arith) 1 (omega arith) refl)
+
+has-more : Says (Row.notSmallest A (flowA ((0 ∷ []) ∷ [] ∷ [] ∷ [])) ((0 ∷ 1 ∷ []) ∷ (1 ∷ []) ∷ (1 ∷ []) ∷ []))
+unfolding computed table
+has-more s = false≢true (s .least (rowsOf rowsA) (mend-two .0 .mends) 0 (omega arith) 1 (omega arith) refl)
+
 -- ---- the rows
 
 pub cases : All Says rows
@@ -422,6 +544,10 @@ told-cases =
 pub later-cases : All Says laterRows
 later-cases = (later-receiver, (later-sender, (rule-2-first, (rule-3-first, (later-claim, (kept-claim, tt))))))
 
+pub mend-cases : All Says mendRows
+mend-cases =
+    (mend-two, (mend-three, (mend-none, (mend-wide, (mend-apart, (mend-meeting, (lacks-rule1, (lacks-rule3, (lacks-given, (has-more, tt))))))))))
+
 -- ---- demand 3 at A: its array is well formed, its table is accepted, so every configuration that A can come to is safe
 
 pub A-formed : WellFormed A
@@ -445,3 +571,14 @@ A-claims (suc c) h = omega arith
 pub A-safe : (ch : Choices) (us : List Attempt) → Safe A tableA (run calculus A ch us)
 unfolding computed table
 A-safe = demand3 A tableA A-formed A-claims refl
+
+-- ---- the rounds at A, with rows 1 and 2 empty: they set bit 1 in both, and no other
+
+abbrev emptied : Table
+emptied = flowA ((0 ∷ []) ∷ [] ∷ [] ∷ [])
+
+pub A-mended : Each 3 λ v. Each rowBits λ o. mended A emptied v o ≡ L.has (getD rowsA v []) o
+A-mended = smallest-same A emptied (mended A emptied) (rowsOf rowsA) (mended-smallest A A-formed emptied) (mend-two .0)
+
+pub A-bits : bitsSet A (emptied .row) (mended A emptied) ≡ 2
+A-bits = bits-same A (emptied .row) (mended A emptied) (emptied .row) (rowsOf rowsA) (λ v h o l. refl) A-mended ∙ mend-two .1

@@ -11,6 +11,7 @@ pub mod Covers
 pub mod Safety
 pub mod Order
 pub mod Alike
+pub mod Mend
 pub mod Configs
 pub mod Natural
 pub mod Markers

@@ -15,6 +15,7 @@ use Rattle.model.specs.Memory.{standsFor, Starts, Follows, Walks, Ends, 
 use Rattle.model.specs.Memory as M
 use Rattle.model.specs.declared.Claim.{Claim}
 use Rattle.model.specs.Rules.{Table, Broken, Verdict, held, at, verdict, check5, FirstBroken}
+use Rattle.model.specs.Mend.{Rows, Smallest, bitsSet}
 use Rattle.model.specs.Same.{SameClaims}
 use Rattle.model.specs.Safe.{setSum, Safe}
 
@@ -98,6 +99,19 @@ H =
     ∷ Node.stop
     ∷ Node.agent out 0 [] 9
     ∷ Node.agent out 0 [] 10
+    ∷ Node.stop
+    ∷ Node.stop
+    ∷ [])
+
+-- A's sender and receiver as a choice: 0 new 0 to 1; 1 new 1 to 2; 2 choice 3, 4; 3 out 0 [1] to 5; 4 in 0 [2] to 6; 5 and 6 stop.
+abbrev pub E : Array
+E =
+    arrayFrom 3
+    (Node.new 0 1
+    ∷ Node.new 1 2
+    ∷ Node.choice 3 4
+    ∷ Node.agent out 0 (1 ∷ []) 5
+    ∷ Node.agent inp 0 (2 ∷ []) 6
     ∷ Node.stop
     ∷ Node.stop
     ∷ [])
@@ -211,6 +225,16 @@ tableD bound w5 w10 = table ((0 ∷ []) ∷ (1 ∷ []) ∷ []) bound (0 ∷ 0 �
 abbrev pub tableH : Table
 tableH = row0 9 (0 ∷ 0 ∷ 0 ∷ 0 ∷ 0 ∷ 0 ∷ 0 ∷ 1 ∷ 1 ∷ [])
 
+-- A's table with other rows, and one for E, whose agents weigh 1 each
+abbrev pub rowsOf : List (List ℕ) → Rows
+rowsOf l v o = has (getD l v []) o
+
+abbrev pub flowA : List (List ℕ) → Table
+flowA l = table l 1 weightsA (claim 6 1 ∷ [])
+
+abbrev pub flowE : ℕ → List (List ℕ) → Table
+flowE bound l = table l bound (0 ∷ 0 ∷ 0 ∷ 1 ∷ 1 ∷ 0 ∷ 0 ∷ []) []
+
 -- A with row 2 empty and w6 = 2
 abbrev pub twiceBroken : Table
 twiceBroken = table ((0 ∷ []) ∷ (1 ∷ []) ∷ [] ∷ []) 1 (0 ∷ 0 ∷ 0 ∷ 0 ∷ 0 ∷ 1 ∷ 2 ∷ 0 ∷ []) []
@@ -236,6 +260,8 @@ pub data Row : Type 0 where
   notFirst : Array → Table → Broken → Row
   same : Table → Table → Row
   other : Table → Table → Row
+  smallest : Array → Table → List (List ℕ) → ℕ → Row
+  notSmallest : Array → Table → List (List ℕ) → Row
 
 -- what a row says
 abbrev pub Says : Row → Type 0
@@ -257,6 +283,8 @@ Says (notTold a k m x) = Tells a (λ i. false) k m x → ⊥
 Says (notFirst a t b) = FirstBroken a t b → ⊥
 Says (same t u) = SameClaims t u
 Says (other t u) = SameClaims t u → ⊥
+Says (smallest a t l n) = Smallest a t (rowsOf l) × (bitsSet a (t .row) (rowsOf l) ≡ n)
+Says (notSmallest a t l) = Smallest a t (rowsOf l) → ⊥
 
 abbrev pub rows : List Row
 rows =
@@ -389,4 +417,24 @@ laterRows =
     -- Two claims break rule 5: the later claim is not named, and no claim that keeps it.
     ∷ notFirst A (table rowsA 1 weightsA (claim 6 0 ∷ claim 6 0 ∷ [])) (at 5 (1 ∷ []))
     ∷ notFirst A tableA (at 5 (0 ∷ []))
+    ∷ []
+
+-- mended rows, with the number of bits set, and rows that are not
+abbrev pub mendRows : List Row
+mendRows =
+    -- A with rows 1 and 2 empty: rule 1 asks for bit 1 in row 1, so that rule 3 asks for it in row 2.
+    smallest A (flowA ((0 ∷ []) ∷ [] ∷ [] ∷ [])) rowsA 2
+    -- Pairs live by the mended rows: by the given ones none does here.
+    ∷ smallest A (flowA ([] ∷ [] ∷ [] ∷ [])) rowsA 3
+    -- Nothing is missing; a bit that no rule asks for stays.
+    ∷ smallest A tableA rowsA 0
+    ∷ smallest A (flowA ((0 ∷ 1 ∷ []) ∷ [] ∷ [] ∷ [])) ((0 ∷ 1 ∷ []) ∷ (1 ∷ []) ∷ (1 ∷ []) ∷ []) 2
+    -- Under the balances: E's pair does not live by bound 1, and does by 2.
+    ∷ smallest E (flowE 1 ((0 ∷ []) ∷ [] ∷ [] ∷ [])) ((0 ∷ []) ∷ (1 ∷ []) ∷ [] ∷ []) 1
+    ∷ smallest E (flowE 2 ((0 ∷ []) ∷ [] ∷ [] ∷ [])) ((0 ∷ []) ∷ (1 ∷ []) ∷ (1 ∷ []) ∷ []) 2
+    -- Not where rule 1 or rule 3 is not met, where a given bit is gone, or where a bit is there that nobody asked for.
+    ∷ notSmallest A (flowA ((0 ∷ []) ∷ [] ∷ [] ∷ [])) ((0 ∷ []) ∷ [] ∷ [] ∷ [])
+    ∷ notSmallest A (flowA ((0 ∷ []) ∷ [] ∷ [] ∷ [])) ((0 ∷ []) ∷ (1 ∷ []) ∷ [] ∷ [])
+    ∷ notSmallest A (flowA ((0 ∷ 1 ∷ []) ∷ [] ∷ [] ∷ [])) rowsA
+    ∷ notSmallest A (flowA ((0 ∷ []) ∷ [] ∷ [] ∷ [])) ((0 ∷ 1 ∷ []) ∷ (1 ∷ []) ∷ (1 ∷ []) ∷ [])
     ∷ []

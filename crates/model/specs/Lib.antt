@@ -5,6 +5,7 @@ pub mod Calculus
 pub mod Numbers
 pub mod Memory
 pub mod Rules
+pub mod Mend
 pub mod Safe
 pub mod Same
 pub mod Cases

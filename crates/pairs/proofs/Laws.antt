@@ -47,7 +47,7 @@ taken-is : (r : Record) → isReceiver (nodeOf r) ≡ true → (w : ℕ) → tak
 unfolding taken
 taken-is r h w = elim (decided (isResource (nodeOf r))) [ inl e ↦ rw (e, resource-is r e) | inr e ↦ rw (e, in-is r h e) ]
 
-arg-is : (r : Record) (m : ℕ) → m < r .arity → getD (argsOf r) m 0 ≡ getD (r .args) m 0
+pub arg-is : (r : Record) (m : ℕ) → m < r .arity → getD (argsOf r) m 0 ≡ getD (r .args) m 0
 arg-is r m h = getD-take (r .arity) (r .args) m 0 h
 
 module _ {S : Setting} (g : Given S) where
@@ -91,7 +91,7 @@ module _ {S : Setting} (g : Given S) where
     pub agent-p : isAgent (nodeOf (p .node)) ≡ true
     agent-p = receiver-is (p .node) rp .0
 
-    live-is : isAgent (nodeOf (q .node)) ≡ true → live T (p .number) (q .number) (agentIn a (p .node)) (agentIn a (q .node)) ≡ alive S p q
+    pub live-is : isAgent (nodeOf (q .node)) ≡ true → live T (p .number) (q .number) (agentIn a (p .node)) (agentIn a (q .node)) ≡ alive S p q
     unfolding live shareBit fitBoth share
     live-is k = rw (receiver-is (p .node) rp .1, ← agent-sort (q .node) k .1, arity-is (g .read) hp, arity-is (g .read) hq)
 
@@ -128,7 +128,7 @@ module _ {S : Setting} (g : Given S) where
           let e = arities in
           (omega (arith, small-arity (g .read) hp), arg-row hp agent-p m h, arg-row hq agent-q m (omega arith))
 
-      argument-is : (m : ℕ) → m < p .node .arity → within T (getD (argsOf (q .node)) m 0) (getD (argsOf (p .node)) m 0) ≡ argumentHolds (S .rows) p q m
+      pub argument-is : (m : ℕ) → m < p .node .arity → within T (getD (argsOf (q .node)) m 0) (getD (argsOf (p .node)) m 0) ≡ argumentHolds (S .rows) p q m
       unfolding within inside
       argument-is m h = let e = arities in rw (arg-is (q .node) m (omega arith), arg-is (p .node) m h)
 

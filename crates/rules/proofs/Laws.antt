@@ -1,4 +1,4 @@
--- The rules by the checker's own lists are the model's, and the lists that are filled from two files that were read stand for their table.
+-- The rules by the checker's own lists are the model's, and over lists that stand for the table of two files they are the rules of that table.
 use Prim.Native.Nat.{ℕ, _+_, _<_}
 use native.Mathlib.Nat.{le-of-suc-le-suc}
 use native.Mathlib.Numerals.{add-one}
@@ -35,6 +35,7 @@ use Rattle.loads.specs.Loads.{loadIn, AllLoads}
 use Rattle.loads.proofs.Laws.{small-load, half-load}
 use Rattle.pairs.specs.declared.Place.the-variants.{At}
 use Rattle.pairs.specs.Pairs.{listTable, Weighed, atPair, pairsOf, placed}
+use Rattle.lists.specs.Listed.{Listed}
 use Rattle.rules.specs.declared.Ruling.{Ruling}
 use Rattle.rules.specs.declared.Ruling.the-variants.{Held, Rule1, Rule2, Rule3, Rule4, Rule5}
 use Rattle.rules.specs.Ruling.{ruled, isHeld, ruleBelow, ownMarked, rootFits, claimHolds, setHolds, ClaimsListed, AllListed, claimed}
@@ -129,18 +130,8 @@ module _ {f : List ℕ} {t : Trailer} {s : List ℕ} {z : Sizes} {rows loads bou
 
 -- ---- the lists of two files that were read
 
-agent-load : (w : ℕ → ℕ) (i : ℕ) (f : ℕ → ℕ) (v : Node) → isAgent v ≡ true → loadOf w i f v ≡ w i
-unfolding isAgent loadOf
-agent-load w i f Node.stop e = absurd (false≢true e)
-agent-load w i f (Node.new n l) e = absurd (false≢true e)
-agent-load w i f (Node.par l r) e = absurd (false≢true e)
-agent-load w i f (Node.choice l r) e = absurd (false≢true e)
-agent-load w i f (Node.agent s x ys l) e = refl
-
-module _ (f : List ℕ) (t : Trailer) (s : List ℕ) (z : Sizes) (read : IsRead f t) (table : IsTable f t s z) (bytes : (i : ℕ) → getD s i 0 < 256)
-    (rows loads bounds : List ℕ) (manyRows : length rows ≡ 1024) (manyLoads : length loads ≡ 24576) (manyBounds : length bounds ≡ 24)
-    (marks : (v o : ℕ) → v < z .names → o < 256 → marked rows v o ≡ rowBit s z v o) (weighs : AllLoads loads (arrayOf f t) (tableOf s z))
-    (bears : (k : ℕ) → k < z .balances → getD bounds k 0 ≡ u32At s (balanceAt z k)) where
+module _ (f : List ℕ) (t : Trailer) (s : List ℕ) (z : Sizes) (table : IsTable f t s z) (bytes : (i : ℕ) → getD s i 0 < 256)
+    (rows loads bounds : List ℕ) (listed : Listed f t s z rows loads bounds) where
   abbrev b : Array
   b = arrayOf f t
 
@@ -148,23 +139,7 @@ module _ (f : List ℕ) (t : Trailer) (s : List ℕ) (z : Sizes) (read : IsRead 
   T = tableOf s z
 
   ok : WellFormed b
-  ok = read .formed
-
-  -- the entry of an agent is its weight
-  weight-is : (k i : ℕ) → k < z .balances → isAgent (nodeAt b i) ≡ true → loadIn loads i k ≡ (T .balance k) .weight i
-  weight-is k i h e =
-      let l = agent-inside b i e in
-      weighs i k l h ∙ load-at b (ok .children) i l ((T .balance k) .weight) ∙ agent-load ((T .balance k) .weight) i _ (nodeAt b i) e
-
-  weighed : Weighed loads b (z .balances)
-  weighed = record {
-    half = λ i h k l.
-        let few = table .laid .fewBalances in
-        half-load b ok ((T .balance k) .weight) (λ j. le-of-suc-le-suc (u16-small s bytes _)) loads manyLoads i k h (omega arith) (weighs i k h l);
-    weighs = λ i k h l. weighs i k h l ∙ load-alike b ok _ _ (λ j e. sym (weight-is k j l e)) i h;
-    small = λ i k h l. small-load b ok ((T .balance k) .weight) (λ j. le-of-suc-le-suc (u16-small s bytes _)) loads i k h (weighs i k h l);
-    light = λ i k e l. subst (λ x. x < 65536) (sym (weight-is k i l e)) (u16-small s bytes _);
-  }
+  ok = listed .given .read .formed
 
   -- a claim names an agent and a balance
   named : Named b T
@@ -178,27 +153,18 @@ module _ (f : List ℕ) (t : Trailer) (s : List ℕ) (z : Sizes) (read : IsRead 
         listed = λ c h.
             let n = named c h in
             record {
-              bound = omega (arith, n .1, l .fewBalances, manyBounds);
-              weight = weighed .half _ (agent-inside b _ (n .0)) _ (n .1);
+              bound = omega (arith, n .1, l .fewBalances, listed .given .lists .manyBounds);
+              weight = listed .given .weighed .half _ (agent-inside b _ (n .0)) _ (n .1);
               most = u16-small s bytes _;
             };
         rise = claims-rise T (table .order);
       }
 
   pub filled : AllListed f t s z rows loads bounds
-  filled = record {
-    given = record {
-      read = read;
-      lists = record { few = table .laid .fewBalances; manyRows = manyRows; manyBounds = manyBounds };
-      weighed = weighed;
-    };
-    claims = claims;
-    sets = sets-agree T (table .sets);
-  }
+  filled = record { given = listed .given; claims = claims; sets = sets-agree T (table .sets) }
 
   -- the verdict over the lists is that over the table of the bytes
   pub judged : verdict b (claimed (listTable rows loads bounds (z .balances)) s z) ≡ verdict b T
   judged =
-      verdict-alike b ok _ T
-      record { rows = λ v o h. marks v o (rw (table .laid .names) h); many = refl; bounds = bears; weights = weight-is }
-      refl (λ c h. refl) named
+      let e = listed .same in
+      verdict-alike b ok _ T record { rows = e .rows; many = e .many; bounds = e .bounds; weights = e .weights } refl (λ c h. refl) named

@@ -1,5 +1,5 @@
 // The five rules in number order, over an array file and a table file that were read.
-// Promises the model's verdict over the array and the table that the bytes stand for. Depends on filter and pairs (rules 3 and 4), flows
+// Promises the model's verdict over the array and the table that the bytes stand for. Depends on filter and pairs (rules 3 and 4), lists
 // and loads (the checker's own lists), claims (a set's first), layout, frees (the names that news open), arrays, records, marks, wire, model and laws.
 // The lists take 106,592 bytes of stack.
 ghost use mathlib.Core.Path.{_≡_};
@@ -26,18 +26,6 @@ pub enum Ruling {
     Rule3(usize, usize, usize),
     Rule4(usize, usize, usize),
     Rule5(usize),
-}
-
-// The bounds of all balances.
-fn all_bounds(bounds: &mut [u32], table: &[u8], z: Sizes)
-    requires { ⌜ (z .nodes ≤ 1024) × (z .names ≤ 256) × (z .balances ≤ 24) × (claimAt z 0 ≤ length (now table)) × (length (now bounds) ≡ 24) ⌝ }
-    ensures { λ _. ⌜ ((k : ℕ) → k < z .balances → getD (now (bounds .exit)) k 0 ≡ u32At (now (table .entry)) (balanceAt z k)) ⌝ }
-{
-    let mut k: usize = 0;
-    while k < z.balances {
-        bounds[k] = wire::u32_at(table, layout::balance_at(z, k));
-        k += 1;
-    }
 }
 
 // Rule 1.
@@ -211,8 +199,6 @@ pub fn judge(file: &[u8], t: Trailer, table: &[u8], z: Sizes) -> Ruling
     let mut rows = [0u64; 1024];
     let mut loads = [0u32; 24576];
     let mut bounds = [0u32; 24];
-    flows::flow_rows(&mut rows, table, z);
-    loads::all_loads(&mut loads, file, t, table, z);
-    all_bounds(&mut bounds, table, z);
+    lists::fill_lists(&mut rows, &mut loads, &mut bounds, file, t, table, z);
     all_rules(file, t, table, z, &rows, &loads, &bounds)
 }

@@ -9,23 +9,22 @@ use lib.Dec.{eqb}
 use lib.ListN.{replicate}
 use borrow.Author.Tests.{eq-eqb, ne-eqb}
 use Rattle.laws.proofs.Search.{decided}
-use Rattle.model.specs.Memory.{isOut}
 use Rattle.records.specs.declared.Record.{Record}
 use Rattle.records.specs.declared.Trailer.{Trailer}
-use Rattle.records.specs.Record.{nodeOf, recordOf}
+use Rattle.records.specs.Record.{recordOf}
 use Rattle.pairs.specs.Pairs.{setting}
-use Rattle.senders.specs.Sets.{Family, Room, Collected, KeptBy, Grown, linkIf, Gathered}
+use Rattle.senders.specs.Sets.{sendsBy, Family, Room, Collected, KeptBy, Grown, linkIf, Gathered}
 use Rattle.senders.proofs.Laws.{room-grown, collected-none, collected-more}
 use Rattle.senders.proofs.Links.{LinkedTo, linked-none, linked-more, linked-same, linked-all}
 
-module _ (rule : ℕ) (f : List ℕ) (t : Trailer) (n : ℕ) (rows loads : List ℕ) where
+module _ (rule : ℕ) (f : List ℕ) (t : Trailer) (n : ℕ) (rows loads names : List ℕ) where
   -- whatever the bounds are
   pub record GatheredTo (F : Family) (links : List ℕ) (i : ℕ) : Type 0 where
     pub sets : ℕ → ℕ
     pub few : (q : ℕ) → sets q < 12
     pub room : Room F
-    pub collected : (bounds : List ℕ) → Collected rule (setting f t n rows loads bounds) F sets i
-    pub linked : LinkedTo f t sets links i
+    pub collected : (bounds : List ℕ) → Collected rule (setting f t n rows loads bounds) names F sets i
+    pub linked : LinkedTo f t names sets links i
 
   pub gathered-none : (F : Family) → Room F → GatheredTo F (replicate 1036 0) 0
   gathered-none F room = record {
@@ -33,16 +32,16 @@ module _ (rule : ℕ) (f : List ℕ) (t : Trailer) (n : ℕ) (rows loads : List 
     few = λ q. omega arith;
     room = room;
     collected = λ bounds. collected-none (λ q. 0) room;
-    linked = linked-none f t (λ q. 0);
+    linked = linked-none f t names (λ q. 0);
   }
 
   pub gathered-all : {F : Family} {links : List ℕ} → GatheredTo F links (t .nodes) → (bounds : List ℕ)
-      → Gathered rule (setting f t n rows loads bounds) F links
+      → Gathered rule (setting f t n rows loads bounds) names F links
   gathered-all {F} {links} h bounds = record {
     sets = h .sets;
     few = h .few;
     collected = h .collected bounds;
-    linked = linked-all f t (h .sets) links (h .linked);
+    linked = linked-all f t names (h .sets) links (h .linked);
   }
 
   module _ {F : Family} {links : List ℕ} (i : ℕ) (h : GatheredTo F links i) (g : ℕ) (small : g < 12) where
@@ -59,8 +58,8 @@ module _ (rule : ℕ) (f : List ℕ) (t : Trailer) (n : ℕ) (rows loads : List 
     more-few q = elim (decided (eqb q i)) [ inl e ↦ rw e small | inr e ↦ rw e (h .few q) ]
 
     pub gathered-more : {G : Family} → Grown F G → (r : Record) → r ≡ recordOf f t i → i < t .nodes → i < 1024
-        → (isOut (nodeOf r) ≡ true → KeptBy rule n rows loads G g (record { number = i; node = r }))
-        → GatheredTo G (linkIf links (isOut (nodeOf r)) g i) (i + 1)
+        → (sendsBy names r ≡ true → KeptBy rule n rows loads G g (record { number = i; node = r }))
+        → GatheredTo G (linkIf links (sendsBy names r) g i) (i + 1)
     gathered-more {G} grown r read here fits kept = record {
       sets = more;
       few = more-few;
@@ -68,6 +67,6 @@ module _ (rule : ℕ) (f : List ℕ) (t : Trailer) (n : ℕ) (rows loads : List 
       collected = λ bounds.
           collected-more (h .sets) more (h .collected bounds) grown below r read (λ e. rw at-node (kept e f t bounds));
       linked =
-          rw read (subst (λ (x : ℕ). LinkedTo f t more (linkIf links (isOut (nodeOf (recordOf f t i))) x i) (i + 1)) at-node
-          (linked-more f t more links i fits here (linked-same f t (h .sets) more links i below (h .linked)) (more-few i)));
+          rw read (subst (λ (x : ℕ). LinkedTo f t names more (linkIf links (sendsBy names (recordOf f t i)) x i) (i + 1)) at-node
+          (linked-more f t names more links i fits here (linked-same f t names (h .sets) more links i below (h .linked)) (more-few i)));
     }

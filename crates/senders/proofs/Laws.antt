@@ -9,7 +9,8 @@ use mathlib.Core.List.{List}
 use lib.Dec.{eqb, ltb}
 use lib.ListN.{length, set, length-set}
 use borrow.Author.Tests.{eqb-true, eq-eqb, ltb-true, ltb-false}
-use Rattle.laws.proofs.Search.{decided, or-left, or-right}
+use Rattle.laws.specs.Search.{every}
+use Rattle.laws.proofs.Search.{decided, and-join, or-left, or-right, every-true}
 use Rattle.laws.proofs.Lists.{getD-set}
 use Rattle.marks.specs.Marks.{marked, markIf, inside, Joined}
 use Rattle.marks.proofs.Laws.{marked-inside, inside-trans, join-keeps, marked-set}
@@ -23,7 +24,7 @@ use Rattle.pairs.specs.declared.Side.{Side}
 use Rattle.pairs.specs.Pairs.{Setting, Given, Held}
 use Rattle.pairs.proofs.Laws.{name-row, arg-row}
 use Rattle.pairs.proofs.ByDifference.{need-there}
-use Rattle.senders.specs.Sets.{Family, Room, Covers, Collected, NeedsGrow, RowsGrow, Grown, Askable}
+use Rattle.senders.specs.Sets.{everyName, sendsBy, Family, Room, Covers, Collected, NeedsGrow, RowsGrow, Grown, Askable}
 
 -- ---- needs
 
@@ -111,14 +112,14 @@ covers-grown c p = record {
 
 -- ---- each sender below a node
 
-pub collected-none : {rule : ℕ} {S : Setting} {F : Family} (sets : ℕ → ℕ) → Room F → Collected rule S F sets 0
+pub collected-none : {rule : ℕ} {S : Setting} {names : List ℕ} {F : Family} (sets : ℕ → ℕ) → Room F → Collected rule S names F sets 0
 collected-none sets r = record { room = r; covers = λ q h k l. absurd (omega arith) }
 
--- one node more: where it sends, its set keeps it. The nodes before it are in the sets that they were in.
-pub collected-more : {rule : ℕ} {S : Setting} {F G : Family} {i : ℕ} (sets more : ℕ → ℕ) → Collected rule S F sets i → Grown F G
+-- one node more: where it is gathered, its set keeps it. The nodes before it are in the sets that they were in.
+pub collected-more : {rule : ℕ} {S : Setting} {names : List ℕ} {F G : Family} {i : ℕ} (sets more : ℕ → ℕ) → Collected rule S names F sets i → Grown F G
     → ((x : ℕ) → x < i → more x ≡ sets x) → (r : Record) → r ≡ recordOf (S .f) (S .t) i
-    → (isOut (nodeOf r) ≡ true → Covers rule S G (more i) (record { number = i; node = r })) → Collected rule S G more (i + 1)
-collected-more {rule} {S} {F} {G} {i} sets more c p same r read here = record {
+    → (sendsBy names r ≡ true → Covers rule S G (more i) (record { number = i; node = r })) → Collected rule S names G more (i + 1)
+collected-more {rule} {S} {names} {F} {G} {i} sets more c p same r read here = record {
   room = room-grown (c .room) p;
   covers = λ q h k l. elim (decided (ltb (q .number) i)) [
     | inl e ↦
@@ -128,12 +129,12 @@ collected-more {rule} {S} {F} {G} {i} sets more c p same r read here = record {
   ];
 }
   where
-    last : (q : Side) → Held S q → isOut (nodeOf (q .node)) ≡ true → q .number ≡ i → Covers rule S G (more (q .number)) q
+    last : (q : Side) → Held S q → sendsBy names (q .node) ≡ true → q .number ≡ i → Covers rule S G (more (q .number)) q
     last q h k e =
         let f : q .node ≡ r = h .is ∙ ap (λ (n : ℕ). recordOf (S .f) (S .t) n) e ∙ sym read in
         subst (λ (x : ℕ). Covers rule S G x q) (ap more (sym e))
         (subst (λ (x : Side). Covers rule S G (more i) x) (λ j. record { number = sym e j; node = sym f j })
-        (here (ap (λ (x : Record). isOut (nodeOf x)) (sym f) ∙ k)))
+        (here (ap (λ (x : Record). sendsBy names x) (sym f) ∙ k)))
 
 -- the lists have what is asked of a sender of the file
 pub askable : {S : Setting} → Given S → {q : Side} → Held S q → isOut (nodeOf (q .node)) ≡ true → Askable (S .n) (S .rows) (S .loads) q
@@ -144,3 +145,17 @@ askable {S} g {q} h k =
       sent = record { few = small-arity (g .read) h; args = λ m l. arg-row g h a m l };
       needs = record { few = g .lists .few; there = need-there g h k };
     }
+
+-- ---- every name marked
+
+all-marked : every 256 (marked everyName 0) ≡ true
+unfolding every marked
+all-marked = refl
+
+pub marked-any : (v : ℕ) → v < 256 → marked everyName 0 v ≡ true
+marked-any v h = every-true 256 (marked everyName 0) all-marked v h
+
+-- every sender uses a marked name then
+pub sends-any : {S : Setting} → Given S → {q : Side} → Held S q → isOut (nodeOf (q .node)) ≡ true → sendsBy everyName (q .node) ≡ true
+sends-any {S} g {q} h k =
+    and-join k (or-left _ _ (marked-any _ (omega (arith, name-row g h (sender-is (q .node) k .0), g .lists .manyRows))))

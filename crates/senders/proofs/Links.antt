@@ -12,14 +12,13 @@ use lib.Seq.{getD-set-same, getD-set-other}
 use borrow.Author.Tests.{eqb-true, eqb-false}
 use Rattle.laws.proofs.Search.{decided}
 use Rattle.laws.proofs.Lists.{getD-zeros}
-use Rattle.model.specs.Memory.{isOut}
 use Rattle.records.specs.declared.Trailer.{Trailer}
-use Rattle.records.specs.Record.{nodeOf, recordOf}
-use Rattle.senders.specs.Sets.{Member, linkIf, Linked}
+use Rattle.records.specs.Record.{recordOf}
+use Rattle.senders.specs.Sets.{sendsBy, Member, linkIf, Linked}
 
-module _ (f : List ℕ) (t : Trailer) (sets : ℕ → ℕ) where
+module _ (f : List ℕ) (t : Trailer) (names : List ℕ) (sets : ℕ → ℕ) where
   abbrev Of : ℕ → ℕ → Type 0
-  Of g q = Member f t sets g q
+  Of g q = Member f t names sets g q
 
   -- the senders below node n are linked
   pub record LinkedTo (links : List ℕ) (n : ℕ) : Type 0 where
@@ -38,7 +37,7 @@ module _ (f : List ℕ) (t : Trailer) (sets : ℕ → ℕ) where
     beforeOf = λ g p q h l. absurd (omega arith);
   }
 
-  pub linked-all : (links : List ℕ) → LinkedTo links (t .nodes) → Linked f t sets links
+  pub linked-all : (links : List ℕ) → LinkedTo links (t .nodes) → Linked f t names sets links
   linked-all links l = record {
     size = l .size;
     last = λ g q h. l .last g q h (h .0);
@@ -52,13 +51,13 @@ module _ (f : List ℕ) (t : Trailer) (sets : ℕ → ℕ) where
     own = sets q
 
     abbrev sends : Bool
-    sends = isOut (nodeOf (recordOf f t q))
+    sends = sendsBy names (recordOf f t q)
 
     -- a node below the next one is this one or lies before it
     split : (x : ℕ) → x < q + 1 → (x ≡ q) ⊎ (x < q)
     split x b = let e : x ≤ q = omega arith in eq-or-lt-of-le e
 
-    -- a node that does not send is of no set
+    -- a node that is not gathered is of no set
     linked-skip : sends ≡ false → LinkedTo links (q + 1)
     linked-skip off = record {
       size = l .size;
@@ -70,7 +69,7 @@ module _ (f : List ℕ) (t : Trailer) (sets : ℕ → ℕ) where
       where
         less : (g x : ℕ) → Of g x → x < q + 1 → x < q
         less g x h b = elim (split x b) [
-          | inl e ↦ absurd (true≢false (sym (h .1) ∙ ap (λ (n : ℕ). isOut (nodeOf (recordOf f t n))) e ∙ off))
+          | inl e ↦ absurd (true≢false (sym (h .1) ∙ ap (λ (n : ℕ). sendsBy names (recordOf f t n)) e ∙ off))
           | inr e ↦ e
         ]
 
@@ -154,9 +153,9 @@ module _ (f : List ℕ) (t : Trailer) (sets : ℕ → ℕ) where
     linked-more few = elim (decided sends) [ inl e ↦ rw e (linked-put e few) | inr e ↦ rw e (linked-skip e) ]
 
 -- the sets of the nodes below are what counts
-pub linked-same : (f : List ℕ) (t : Trailer) (sets more : ℕ → ℕ) (links : List ℕ) (n : ℕ) → ((x : ℕ) → x < n → more x ≡ sets x)
-    → LinkedTo f t sets links n → LinkedTo f t more links n
-linked-same f t sets more links n same l = record {
+pub linked-same : (f : List ℕ) (t : Trailer) (names : List ℕ) (sets more : ℕ → ℕ) (links : List ℕ) (n : ℕ) → ((x : ℕ) → x < n → more x ≡ sets x)
+    → LinkedTo f t names sets links n → LinkedTo f t names more links n
+linked-same f t names sets more links n same l = record {
   size = l .size;
   last = λ g q h b. l .last g q (there g q b h) b;
   lastOf = λ g q e. let a = l .lastOf g q e in (back g q (a .1) (a .0), a .1);
@@ -164,8 +163,8 @@ linked-same f t sets more links n same l = record {
   beforeOf = λ g p q h b e. let a = l .beforeOf g p q (there g q b h) b e in (back g p (omega (arith, a .1, b)) (a .0), a .1);
 }
   where
-    there : (g q : ℕ) → q < n → Member f t more g q → Member f t sets g q
+    there : (g q : ℕ) → q < n → Member f t names more g q → Member f t names sets g q
     there g q b h = (h .0, h .1, sym (same q b) ∙ h .2)
 
-    back : (g q : ℕ) → q < n → Member f t sets g q → Member f t more g q
+    back : (g q : ℕ) → q < n → Member f t names sets g q → Member f t names more g q
     back g q b h = (h .0, h .1, same q b ∙ h .2)

@@ -1,10 +1,11 @@
 -- Sets of senders: what a set keeps of all its senders together, and how they are linked.
 use Prim.Native.Nat.{ℕ, _+_, _*_, _≤_, _<_}
 use mathlib.Core.Path.{_≡_}
-use mathlib.Core.Bool.{Bool, true, false, cond}
+use mathlib.Core.Bool.{Bool, true, false, cond, _&&_, _||_}
 use mathlib.Core.List.{List}
 use lib.Dec.{eqb}
-use lib.ListN.{length, getD, set}
+use lib.ListN.{length, getD, set, replicate}
+use Rattle.laws.specs.Search.{any}
 use Rattle.marks.specs.Marks.{HasRow, marked, inside}
 use Rattle.model.specs.Memory.{isOut}
 use Rattle.records.specs.declared.Record.{Record}
@@ -13,6 +14,20 @@ use Rattle.records.specs.Record.{nodeOf, recordOf}
 use Rattle.loads.specs.Loads.{loadIn}
 use Rattle.pairs.specs.declared.Side.{Side}
 use Rattle.pairs.specs.Pairs.{Setting, setting, Held, needOf, NeedThere}
+
+-- ---- which senders are gathered
+
+-- a marked name is among those that a record sends
+abbrev pub sendsMarked : List ℕ → Record → Bool
+sendsMarked names r = any (r .arity) λ m. marked names 0 (getD (r .args) m 0)
+
+-- it sends, and uses a marked name: as its channel or as what it sends
+abbrev pub sendsBy : List ℕ → Record → Bool
+sendsBy names r = isOut (nodeOf r) && (marked names 0 (r .name) || sendsMarked names r)
+
+-- a row with every mark
+abbrev pub everyName : List ℕ
+everyName = replicate 4 18446744073709551615
 
 -- ---- what a set keeps
 
@@ -57,10 +72,10 @@ pub record Covers (rule : ℕ) (S : Setting) (F : Family) (g : ℕ) (q : Side) :
   pub sent : eqb rule 3 ≡ true → SentKept (S .rows) (F .unions) g (q .node)
   pub needs : eqb rule 3 ≡ false → NeedsKept (S .n) (S .loads) (F .needs) g q
 
--- each sender below node n is kept by its set. Which set that is, is free.
-pub record Collected (rule : ℕ) (S : Setting) (F : Family) (sets : ℕ → ℕ) (n : ℕ) : Type 0 where
+-- each sender below node n that uses a marked name is kept by its set. Which set that is, is free.
+pub record Collected (rule : ℕ) (S : Setting) (names : List ℕ) (F : Family) (sets : ℕ → ℕ) (n : ℕ) : Type 0 where
   pub room : Room F
-  pub covers : (q : Side) → Held S q → isOut (nodeOf (q .node)) ≡ true → q .number < n → Covers rule S F (sets (q .number)) q
+  pub covers : (q : Side) → Held S q → sendsBy names (q .node) ≡ true → q .number < n → Covers rule S F (sets (q .number)) q
 
 -- ---- how the lists grow while senders are collected
 
@@ -103,25 +118,25 @@ pub record Askable (n : ℕ) (rows loads : List ℕ) (q : Side) : Type 0 where
 
 -- ---- how the senders of a set are linked, from the last to the first
 
--- node q sends and is of set g
-abbrev pub Member : List ℕ → Trailer → (ℕ → ℕ) → ℕ → ℕ → Type 0
-Member f t sets g q = (q < t .nodes) × (isOut (nodeOf (recordOf f t q)) ≡ true) × (sets q ≡ g)
+-- node q is gathered and is of set g
+abbrev pub Member : List ℕ → Trailer → List ℕ → (ℕ → ℕ) → ℕ → ℕ → Type 0
+Member f t names sets g q = (q < t .nodes) × (sendsBy names (recordOf f t q) ≡ true) × (sets q ≡ g)
 
 -- node q before the last sender of set g, where the test is true
 abbrev pub linkIf : List ℕ → Bool → ℕ → ℕ → List ℕ
 linkIf links on g q = cond on (set (set links q (getD links (1024 + g) 0)) (1024 + g) (q + 1)) links
 
 -- entry 1,024 + g is 1 + the last sender of set g, and entry q 1 + the sender of its set before q; 0 is none
-pub record Linked (f : List ℕ) (t : Trailer) (sets : ℕ → ℕ) (links : List ℕ) : Type 0 where
+pub record Linked (f : List ℕ) (t : Trailer) (names : List ℕ) (sets : ℕ → ℕ) (links : List ℕ) : Type 0 where
   pub size : length links ≡ 1036
-  pub last : (g q : ℕ) → Member f t sets g q → q < getD links (1024 + g) 0
-  pub lastOf : (g q : ℕ) → getD links (1024 + g) 0 ≡ q + 1 → Member f t sets g q
-  pub before : (g p q : ℕ) → Member f t sets g p → Member f t sets g q → p < q → p < getD links q 0
-  pub beforeOf : (g p q : ℕ) → Member f t sets g q → getD links q 0 ≡ p + 1 → Member f t sets g p × (p < q)
+  pub last : (g q : ℕ) → Member f t names sets g q → q < getD links (1024 + g) 0
+  pub lastOf : (g q : ℕ) → getD links (1024 + g) 0 ≡ q + 1 → Member f t names sets g q
+  pub before : (g p q : ℕ) → Member f t names sets g p → Member f t names sets g q → p < q → p < getD links q 0
+  pub beforeOf : (g p q : ℕ) → Member f t names sets g q → getD links q 0 ≡ p + 1 → Member f t names sets g p × (p < q)
 
--- ---- the sets that the lists stand for: each sender is in one of 12, which keeps it, and the links pass the senders of each
-pub record Gathered (rule : ℕ) (S : Setting) (F : Family) (links : List ℕ) : Type 0 where
+-- ---- the sets that the lists stand for: each sender that uses a marked name is in one of 12, which keeps it, and the links pass those of each
+pub record Gathered (rule : ℕ) (S : Setting) (names : List ℕ) (F : Family) (links : List ℕ) : Type 0 where
   pub sets : ℕ → ℕ
   pub few : (q : ℕ) → sets q < 12
-  pub collected : Collected rule S F sets (S .t .nodes)
-  pub linked : Linked (S .f) (S .t) sets links
+  pub collected : Collected rule S names F sets (S .t .nodes)
+  pub linked : Linked (S .f) (S .t) names sets links

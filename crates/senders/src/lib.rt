@@ -1,6 +1,6 @@
-// Twelve sets of senders, in lists that the checker lends: for each set the arities, the rows of the channels and of what is sent, all together, and
+// Twelve sets of senders that use a marked name, in lists that the caller lends: for each set the arities, the rows of the channels and of what is sent, all together, and
 // the largest need in each balance; and the senders of each set, linked.
-// Promises that each sender is in one set, that its set keeps what it asks of a receiver, and that the links pass every sender of a set.
+// Promises that each of these senders is in one set, that its set keeps what it asks of a receiver, and that the links pass every sender of a set.
 // Which set a sender is in is free. Depends on pairs (a side, what it needs), loads, arrays, records, marks, wire, model and laws.
 ghost use mathlib.Core.Path.{_≡_};
 ghost use mathlib.Core.Bool.{true, false};
@@ -11,7 +11,7 @@ ghost use lib.ListN.{length, replicate};
 ghost use Rattle.model.specs.Memory.{isOut};
 ghost use Rattle.records.specs.Record.{nodeOf};
 ghost use Rattle.pairs.specs.Pairs.{setting, Given};
-ghost use Rattle.senders.specs.Sets.{arityMark, sentRow, family, Room, linkIf, Gathered};
+ghost use Rattle.senders.specs.Sets.{sendsMarked, sendsBy, arityMark, sentRow, family, Room, linkIf, Gathered};
 ghost use Rattle.senders.specs.Sets.{HalfNeeds, NeedsGrow, RowsGrow, Grown, SentKept, NeedsKept, KeptBy, SentRows, NeedsThere, Askable};
 use pairs::Side;
 use records::Record;
@@ -43,6 +43,38 @@ fn set_of(seen: &mut [u8], fine: bool, r: Record) -> usize
     let before = wire::byte_index(seen[c]);
     seen[c] = one_more(seen[c], records::sends(r));
     (c + before / 16) % 12
+}
+
+// ---- which senders are gathered
+
+// A marked name is among those that r sends.
+fn sends_marked(names: &[u64], r: Record) -> bool
+    requires { ⌜ (length (now names) ≡ 4) × (r .arity ≤ 8) ⌝ }
+    ensures { λ b. ⌜ b ≡ sendsMarked (now (names .entry)) r ⌝ }
+{
+    let args = r.args;
+    let arity = r.arity;
+    let mut sends = false;
+    let mut n: usize = 0;
+    while n < arity {
+        sends = sends | marks::is_marked(names, 0, wire::byte_index(args[n]));
+        n += 1;
+    }
+    sends
+}
+
+// r sends, and uses a marked name.
+pub fn sends_by(names: &[u64], r: Record) -> bool
+    requires { ⌜ (length (now names) ≡ 4) × (isOut (nodeOf r) ≡ true → (r .name < 256) × (r .arity ≤ 8)) ⌝ }
+    ensures { λ b. ⌜ b ≡ sendsBy (now (names .entry)) r ⌝ }
+{
+    if !records::sends(r) {
+        return false;
+    }
+    if marks::is_marked(names, 0, r.name) {
+        return true;
+    }
+    sends_marked(names, r)
 }
 
 // ---- what a set keeps, and where
@@ -136,8 +168,9 @@ fn join_figures(
     }
 }
 
-// Set g keeps q, where q sends.
+// Set g keeps q, where `on` is true.
 fn join_sender(
+    on: bool,
     rule: u8,
     needs: &mut [u32],
     unions: &mut [u64],
@@ -149,13 +182,13 @@ fn join_sender(
     q: Side,
 )
     requires { ⌜ Room (family (now needs) (now unions) (now arities)) × (g < 12) ⌝ }
-    requires { ⌜ (isOut (nodeOf (q .node)) ≡ true → Askable balances (now rows) (now loads) q) ⌝ }
+    requires { ⌜ (on ≡ true → Askable balances (now rows) (now loads) q) ⌝ }
     ensures { λ _. ⌜ Grown (family (now (needs .entry)) (now (unions .entry)) (now (arities .entry)))
         (family (now (needs .exit)) (now (unions .exit)) (now (arities .exit))) ⌝ }
-    ensures { λ _. ⌜ (isOut (nodeOf (q .node)) ≡ true → KeptBy rule balances (now (rows .entry)) (now (loads .entry))
+    ensures { λ _. ⌜ (on ≡ true → KeptBy rule balances (now (rows .entry)) (now (loads .entry))
         (family (now (needs .exit)) (now (unions .exit)) (now (arities .exit))) g q) ⌝ }
 {
-    if !records::sends(q.node) {
+    if !on {
         return;
     }
     marks::mark_if(arities, true, arity_mark(g, q.node.arity));
@@ -179,12 +212,13 @@ fn link_if(links: &mut [u16], on: bool, g: usize, q: usize)
     links[at] = (q + 1) as u16;
 }
 
-// ---- all senders
+// ---- all senders that use a marked name
 
-// Each sender is kept by its set, and linked. Bounds are not looked at: the lists are those of a setting, whatever its bounds.
+// Each of them is kept by its set, and linked. Bounds are not looked at: the lists are those of a setting, whatever its bounds.
 pub fn gather(
     rule: u8,
     fine: bool,
+    names: &[u64],
     needs: &mut [u32],
     unions: &mut [u64],
     arities: &mut [u64],
@@ -196,9 +230,9 @@ pub fn gather(
     loads: &[u32],
 )
     requires { ⌜ ((bounds : List ℕ) × Given (setting (now file) t balances (now rows) (now loads) bounds)) ⌝ }
-    requires { ⌜ Room (family (now needs) (now unions) (now arities)) × (now links ≡ replicate 1036 0) ⌝ }
+    requires { ⌜ Room (family (now needs) (now unions) (now arities)) × (now links ≡ replicate 1036 0) × (length (now names) ≡ 4) ⌝ }
     ensures { λ _. ⌜ ((bounds : List ℕ) → Gathered rule (setting (now (file .entry)) t balances (now (rows .entry)) (now (loads .entry)) bounds)
-        (family (now (needs .exit)) (now (unions .exit)) (now (arities .exit))) (now (links .exit))) ⌝ }
+        (now (names .entry)) (family (now (needs .exit)) (now (unions .exit)) (now (arities .exit))) (now (links .exit))) ⌝ }
 {
     let mut seen = [0u8; 256];
     let mut i: usize = 0;
@@ -208,8 +242,20 @@ pub fn gather(
             node: records::node_at(file, t, i),
         };
         let g = set_of(&mut seen, fine, q.node);
-        join_sender(rule, needs, unions, arities, g, balances, rows, loads, q);
-        link_if(links, records::sends(q.node), g, i);
+        let on = sends_by(names, q.node);
+        join_sender(
+            on,
+            rule,
+            needs,
+            unions,
+            arities,
+            g,
+            balances,
+            rows,
+            loads,
+            q,
+        );
+        link_if(links, on, g, i);
         i += 1;
     }
 }

@@ -1,5 +1,6 @@
 // The table reader: refusals 13 to 21, 30 and 31 in checking order, after the array's own.
-// Promises specs/Read, for every two byte strings; proofs/Laws says that a table that was read is one (IsTable, in layout).
+// Promises specs/Read, for every two byte strings; proofs/Laws says that a table that was read is one (IsTable, in layout), and proofs/Rewritten
+// that it is read again when it is written with other rows.
 // Depends on the crates that check one part each (flows, weights, claims), layout, arrays, records, wire, model and laws.
 ghost use mathlib.Core.Path.{_≡_};
 ghost use Prim.Native.Nat.{_≤_};

@@ -47,7 +47,7 @@ fn sum(bytes: &[u8]) -> u32 {
 }
 
 /// Puts the right word sum into an array or table file.
-pub fn mend(file: &mut [u8]) {
+pub fn set_sum(file: &mut [u8]) {
     let at = file.len() - 8;
     let sum = sum(&file[..at]);
     file[at..at + 4].copy_from_slice(&sum.to_le_bytes());
@@ -67,7 +67,7 @@ pub fn array_with(remark: &[u8], names: u16, records: &[Record]) -> Vec<u8> {
     file.extend(names.to_le_bytes());
     file.extend([0; 4]);
     file.extend(b"PIS1");
-    mend(&mut file);
+    set_sum(&mut file);
     file
 }
 
@@ -114,7 +114,7 @@ pub fn table(array: &[u8], parts: &Parts) -> Vec<u8> {
     file.extend(sum_of(array));
     file.extend([0; 4]);
     file.extend(b"PIC1");
-    mend(&mut file);
+    set_sum(&mut file);
     file
 }
 

@@ -1,5 +1,6 @@
 mod build;
 mod cases;
+mod mending;
 mod order;
 mod random;
 mod refusals;

@@ -8,10 +8,10 @@ use crate::calculus::{attempt, begin, safe, Configuration, Marker, Opening, Thre
 use crate::engine::walk_telling;
 use crate::*;
 
-struct Dice(u64);
+pub struct Dice(pub u64);
 
 impl Dice {
-    fn below(&mut self, n: usize) -> usize {
+    pub fn below(&mut self, n: usize) -> usize {
         self.0 ^= self.0 << 13;
         self.0 ^= self.0 >> 7;
         self.0 ^= self.0 << 17;
@@ -26,7 +26,7 @@ impl Dice {
 }
 
 /// A random array that the reader must accept, and its number of names.
-fn random_array(dice: &mut Dice, most: usize) -> (Vec<u8>, usize) {
+pub fn random_array(dice: &mut Dice, most: usize) -> (Vec<u8>, usize) {
     let mut records: Vec<Record> = vec![stop()];
     let mut waiting: Vec<(usize, Vec<u8>)> = vec![(0, vec![])];
     let mut names = 0u8;
@@ -181,7 +181,7 @@ fn add_set(dice: &mut Dice, agents: &[usize], set: u16, parts: &mut Parts) {
 }
 
 /// A table with least rows, random weights, and claims in any order with repeats.
-fn random_parts(dice: &mut Dice, array: &Array) -> Parts {
+pub fn random_parts(dice: &mut Dice, array: &Array) -> Parts {
     let agents: Vec<usize> = (0..array.nodes().len()).filter(|i| array.agent(*i).is_some()).collect();
     let mut parts = Parts { rows: least_rows(array), ..Parts::default() };
     for _ in 0..dice.below(3) {
@@ -205,7 +205,7 @@ fn random_parts(dice: &mut Dice, array: &Array) -> Parts {
 }
 
 /// The same parts with their claims in order.
-fn ordered(parts: &Parts) -> Parts {
+pub fn ordered(parts: &Parts) -> Parts {
     Parts { claims: in_order(&parts.claims), ..parts.clone() }
 }
 
@@ -613,7 +613,7 @@ fn spoiled_files_are_refused_or_read() {
             spoiled[at] = if dice.below(2) == 0 { dice.below(12) } else { dice.below(256) } as u8;
         }
         if dice.below(4) > 0 {
-            mend(spoiled);
+            set_sum(spoiled);
         }
         match check(&file, &bytes) {
             Verdict::Refused(refusal) => numbers[usize::from(refusal.number)] += 1,

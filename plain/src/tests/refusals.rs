@@ -20,7 +20,7 @@ fn array_refusal(file: &[u8]) -> (u8, usize) {
 fn with(file: &[u8], at: usize, byte: u8) -> Vec<u8> {
     let mut file = file.to_vec();
     file[at] = byte;
-    mend(&mut file);
+    set_sum(&mut file);
     file
 }
 

@@ -54,7 +54,7 @@ returns-2 c e =
     let l = c .before .loop in
     let done : l .g ≡ 12 = omega (arith, l .inv .0, c .loop-test .left) in
     let s = at-start (at-shared-slice-known4 (c .before .before)) in
-    sets-done _ _ _ _ (s .args .p) (s .pre .1 .0) (rw done at (l .inv .1))
+    sets-done _ _ _ _ (s .args .p) (s .pre .0) (s .pre .1 .0) (rw done at (l .inv .1))
 
 pub passes-spec : {M : Type 1} → statement M
 passes-spec =

@@ -1,8 +1,13 @@
 -- The senders below node i are gathered: node i is put into the set that is chosen for it.
 use Prim.Native.Nat.{ℕ, _≤_, _<_, _-_}
 use mathlib.Core.Path.{_≡_, refl, sym, ap, _∙_}
+use mathlib.Core.Bool.{true}
+use denote.Ref.{now}
 use lib.ListN.{length, length-replicate}
-use Rattle.senders.specs.Sets.{family}
+use Rattle.laws.proofs.Search.{and-split}
+use Rattle.model.specs.Memory.{isOut}
+use Rattle.records.specs.Record.{nodeOf}
+use Rattle.senders.specs.Sets.{Askable, family}
 use Rattle.senders.proofs.Laws.{askable}
 use Rattle.senders.proofs.Gathering.{GatheredTo, gathered-none, gathered-more, gathered-all}
 use borrow.Author.Needs.{needs}
@@ -11,24 +16,27 @@ use Rattle.senders.proofs.gather.Statement.{statement}
 use Rattle.senders.proofs.gather.Tie as tie
 
 abbrev Inv-loop : tie.InvT-loop
-Inv-loop rule fine needs₀ unions₀ arities₀ links₀ file t balances rows loads seen₀ i₀ needs unions arities links seen i =
-    (i ≤ t .nodes) × (length seen ≡ 256) × GatheredTo rule file t balances rows loads (family needs unions arities) links i
+Inv-loop rule fine names needs₀ unions₀ arities₀ links₀ file t balances rows loads seen₀ i₀ needs unions arities links seen i =
+    (i ≤ t .nodes) × (length seen ≡ 256) × GatheredTo rule file t balances rows loads names (family needs unions arities) links i
 
 abbrev μ-loop : tie.MeasureT-loop
-μ-loop rule fine needs₀ unions₀ arities₀ links₀ file t balances rows loads seen₀ i₀ needs unions arities links seen i = t .nodes - i
+μ-loop rule fine names needs₀ unions₀ arities₀ links₀ file t balances rows loads seen₀ i₀ needs unions arities links seen i = t .nodes - i
 
--- the start, seen from the loop; the loop, seen from the set; the set, seen from the sender that was joined, and that, seen from the link's test
+-- the start, seen from the loop; the loop, seen from the set; the set, seen from the sender that was joined, and that, seen from the link
 abbrev begun : tie.At-loop Inv-loop μ-loop → tie.Start Inv-loop μ-loop
-begun c = c .before .before .before .before .before .before .before .before
+begun c = c .before .before .before .before .before .before .before .before .before
 
 abbrev looped : tie.After-set-of Inv-loop μ-loop → tie.At-loop Inv-loop μ-loop
 looped c = c .before .before .before .before .before
 
-abbrev chosen : tie.After-join-sender Inv-loop μ-loop → tie.After-set-of Inv-loop μ-loop
-chosen c = c .before .before .before .before .before
+abbrev tested : tie.After-join-sender Inv-loop μ-loop → tie.After-sends-by Inv-loop μ-loop
+tested c = c .before .before .before .before
 
-abbrev joined : tie.After-sends Inv-loop μ-loop → tie.After-join-sender Inv-loop μ-loop
-joined c = c .before .before .before .before .before .before .before .before
+abbrev chosen : tie.After-join-sender Inv-loop μ-loop → tie.After-set-of Inv-loop μ-loop
+chosen c = tested c .before .before
+
+abbrev joined : tie.After-link-if-arg Inv-loop μ-loop → tie.After-join-sender Inv-loop μ-loop
+joined c = c .before .before .before .before .before .before .before
 
 -- the node is below M, and one of at most 1,024
 low : (c : tie.After-set-of Inv-loop μ-loop) → (looped c .loop .i < begun (looped c) .args .t .nodes) × (looped c .loop .i < 1024)
@@ -38,8 +46,8 @@ low c =
 
 loop-holds : tie.Need-loop-holds Inv-loop μ-loop
 loop-holds c =
-    let p = c .before .before .before .before .before .before .before .pre .1 in
-    (omega arith, refl, rw (p .1) (gathered-none _ _ _ _ _ _ _ (p .0)))
+    let p = c .before .before .before .before .before .before .before .before .pre .1 in
+    (omega arith, refl, rw (p .1) (gathered-none _ _ _ _ _ _ _ _ (p .0)))
 
 node-at-requires : tie.Need-node-at-requires Inv-loop μ-loop
 node-at-requires c κs =
@@ -49,12 +57,23 @@ node-at-requires c κs =
 set-of-requires : tie.Need-set-of-requires Inv-loop μ-loop
 set-of-requires c κs = c .before .before .before .before .loop .inv .1
 
+-- what the lists have of node i, where it sends
+sender : (c : tie.After-set-of Inv-loop μ-loop) → isOut (nodeOf (c .before .before .node-at .result)) ≡ true
+    → let x = begun (looped c) .args in
+    Askable (x .balances) (now (x .rows)) (now (x .loads)) record { number = looped c .loop .i; node = c .before .before .node-at .result }
+sender c e = askable (begun (looped c) .pre .0 .1) record { below = low c .0; is = c .before .before .node-at .ensures } e
+
+sends-by-requires : tie.Need-sends-by-requires Inv-loop μ-loop
+sends-by-requires c κs =
+    let g = c .before in
+    let pre = begun (looped g) .pre in
+    (pre .1 .2, λ e. (omega (arith, sender g e .name, pre .0 .1 .lists .manyRows), sender g e .sent .few))
+
 join-sender-requires : tie.Need-join-sender-requires Inv-loop μ-loop
 join-sender-requires c κs =
-    let g = c .before .before .before .before in (
-      (looped g .loop .inv .2 .room, g .set-of .ensures),
-      λ e. askable (begun (looped g) .pre .0 .1) record { below = low g .0; is = g .before .before .node-at .ensures } e,
-    )
+    let b = c .before .before .before in
+    let g = b .before .before in
+    ((looped g .loop .inv .2 .room, g .set-of .ensures), λ e. sender g (and-split _ _ (sym (b .sends-by .ensures) ∙ e) .0))
 
 link-if-requires : tie.Need-link-if-requires Inv-loop μ-loop
 link-if-requires c κs =
@@ -63,15 +82,17 @@ link-if-requires c κs =
 
 loop-again : tie.Need-loop-again Inv-loop μ-loop
 loop-again c =
-    let kept = joined (c .before .before .before) .join-sender .ensures in
-    let g = chosen (joined (c .before .before .before)) in
+    let j = joined (c .before .before .before) in
+    let kept = j .join-sender .ensures in
+    let g = chosen j in
     let r = g .before .before .node-at in
-    let l = looped g .loop in (
+    let l = looped g .loop in
+    let on = tested j .sends-by .ensures in (
       omega (arith, low g .0),
       g .set-of .kept .0 ∙ l .inv .1,
-      rw (c .before .before .link-if .ensures, c .before .before .before .sends .ensures)
-          (gathered-more _ _ _ _ _ _ (l .i) (l .inv .2) (g .set-of .result) (g .set-of .ensures) (kept .0) (r .result) (r .ensures) (low g .0) (low g .1)
-          (kept .1)),
+      rw (c .before .before .link-if .ensures, on)
+          (gathered-more _ _ _ _ _ _ _ (l .i) (l .inv .2) (g .set-of .result) (g .set-of .ensures) (kept .0) (r .result) (r .ensures) (low g .0)
+          (low g .1) (λ e. kept .1 (on ∙ e))),
     )
 
 same-length : tie.Need-same-length Inv-loop μ-loop
@@ -91,11 +112,11 @@ returns : tie.Need-returns Inv-loop μ-loop
 returns c bounds =
     let l = c .before .before .loop in
     let e : l .i ≡ begun (c .before .before) .args .t .nodes = omega (arith, l .inv .0, c .if1 .left) in
-    gathered-all _ _ _ _ _ _ (rw e at (l .inv .2)) bounds
+    gathered-all _ _ _ _ _ _ _ (rw e at (l .inv .2)) bounds
 
 pub gather-spec : {M : Type 1} → statement M
 gather-spec =
     tie.close
     (tie.spec
-    Inv-loop μ-loop loop-holds node-at-requires (λ c. search needs) set-of-requires join-sender-requires (λ c κs. search needs) link-if-requires
+    Inv-loop μ-loop loop-holds node-at-requires (λ c. search needs) set-of-requires sends-by-requires join-sender-requires link-if-requires
     (λ c. search needs) (λ c. search needs) loop-again same-length same-length-2 same-length-3 same-length-4 returns)

@@ -1,4 +1,4 @@
--- Of a sender the mark, the channel's row and the figures are joined, each to lists that only grow; any other node changes nothing.
+-- Of a node that is gathered the mark, the channel's row and the figures are joined, each to lists that only grow; any other changes nothing.
 use Prim.Native.Nat.{_/_, _<_}
 use mathlib.Core.Path.{_≡_, sym, ap, _∙_}
 use mathlib.Core.Bool.{true, true≢false}
@@ -14,9 +14,9 @@ use native.Mathlib.Omega.{arith}
 use Rattle.senders.proofs.join_sender.Statement.{statement}
 use Rattle.senders.proofs.join_sender.Tie as tie
 
--- the start, seen from the test that q sends, that test, seen from the mark, and the mark, seen from the row that is joined
+-- the start, seen from the test of `on`, that test, seen from the mark, and the mark, seen from the row that is joined
 abbrev begun : tie.Else1 → tie.Start
-begun c = c .before .before .before .before .before .before .before
+begun c = c .before .before .before .before .before .before
 
 abbrev tested : tie.After-mark-if → tie.Else1
 tested c = c .before .before .before
@@ -29,16 +29,16 @@ marked-is c = rw (c .before .arity-mark .ensures) at (c .mark-if .ensures)
 abbrev noted : tie.After-join → tie.After-mark-if
 noted c = c .before .before .before .before
 
--- what the lists have of a node that sends
+-- what the lists have of it
 asked : (c : tie.Else1) → let x = begun c .args in Askable (x .balances) (now (x .rows)) (now (x .loads)) (x .q)
-asked c = begun c .pre .1 (sym (c .before .sends .ensures) ∙ not-false (c .before .sends .result) (c .if1 .left))
+asked c = begun c .pre .1 (not-false (begun c .args .on) (c .if1 .left))
 
 -- the mark of its arity has a place
 fits : (c : tie.Else1) → let x = begun c .args in arityMark (x .g) (x .q .node .arity) / 64 < length (now (x .arities))
 fits c = omega (arith, begun c .pre .0 .0 .arities, begun c .pre .0 .1, asked c .sent .few)
 
 returns : tie.Need-returns
-returns c = (grown-same _, λ e. absurd (true≢false (sym e ∙ sym (c .before .sends .ensures) ∙ not-true (c .before .sends .result) (c .if1 .taken))))
+returns c = (grown-same _, λ e. absurd (true≢false (sym e ∙ not-true _ (c .if1 .taken))))
 
 arity-mark-requires : tie.Need-arity-mark-requires
 arity-mark-requires c κs = (begun (c .before) .pre .0 .1, asked (c .before) .sent .few)
@@ -92,5 +92,5 @@ pub join-sender-spec : {M : Type 1} → statement M
 join-sender-spec =
     tie.close
     (tie.spec
-    (λ c κs. search needs) returns arity-mark-requires mark-if-requires join-requires join-figures-requires same-length same-length-2
+    returns arity-mark-requires mark-if-requires join-requires join-figures-requires same-length same-length-2
     same-length-3 returns-2)

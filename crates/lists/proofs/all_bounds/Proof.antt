@@ -10,8 +10,8 @@ use Rattle.layout.specs.Table.{balanceAt}
 use Rattle.layout.proofs.Laws.{balance-fits}
 use borrow.Author.Needs.{needs}
 use native.Mathlib.Omega.{arith}
-use Rattle.rules.proofs.all_bounds.Statement.{statement}
-use Rattle.rules.proofs.all_bounds.Tie as tie
+use Rattle.lists.proofs.all_bounds.Statement.{statement}
+use Rattle.lists.proofs.all_bounds.Tie as tie
 
 abbrev Inv-loop : tie.InvT-loop
 Inv-loop bounds₀ table z k₀ bounds k =

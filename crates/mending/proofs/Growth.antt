@@ -1,0 +1,226 @@
+-- Rows that grow: in no step, in two steps, by one row, and what a pair keeps while they do.
+use Prim.Native.Nat.{ℕ, zero, suc, _+_, _/_, _%_, _<_}
+use native.Mathlib.Omega.{arith}
+use mathlib.Core.Path.{_≡_, refl, sym, ap, ap₂, _∙_, subst}
+use mathlib.Core.Logic.{_⊎_, inl, inr}
+use mathlib.Core.Bool.{Bool, true, false, not, _&&_, _||_, true≢false, false≢true}
+use mathlib.Core.List.{List, [], _∷_}
+use lib.Dec.{eqb}
+use lib.ListN.{length, getD}
+use borrow.Author.Count.{below-more}
+use borrow.Author.Tests.{eqb-true, eq-eqb, not-true, not-false}
+use Rattle.laws.proofs.Search.{decided, and-split, and-join, or-split, or-left, or-right, or-false, false-every, every-false}
+use Rattle.laws.specs.Bits.{bit}
+use Rattle.marks.specs.Marks.{wordAt, marked, markIf, inside, Joined}
+use Rattle.marks.proofs.Laws.{marked-more, markIf-length, inside-marked, marked-inside}
+use Rattle.model.specs.Mend.{Rows}
+use Rattle.mending.specs.Growing.{Below, Grew, Added, Matched, Settled}
+
+-- ---- no step, two steps, a weaker property
+
+pub grew-same : (C : Rows → Type 0) (rows names : List ℕ) → Grew C rows names rows names
+grew-same C rows names = record {
+  size = refl;
+  marks = refl;
+  more = λ v o h e. e;
+  keeps = λ v e. e;
+  notes = λ v o h off on. absurd (true≢false (sym on ∙ off));
+  earned = λ v off on. absurd (true≢false (sym on ∙ off));
+  least = λ M c b. b;
+}
+
+module _ {C : Rows → Type 0} {rows names rows₁ names₁ : List ℕ} (a : Grew C rows names rows₁ names₁) where
+  -- a mark that is not there later was not there before
+  pub was-off : (v o : ℕ) → o < 256 → marked rows₁ v o ≡ false → marked rows v o ≡ false
+  was-off v o h off =
+      elim (decided (marked rows v o)) [ inl e ↦ absurd (true≢false (sym (a .more v o h e) ∙ off)) | inr e ↦ e ]
+
+  -- a row whose name is not noted stays as it was
+  pub unnoted : (v : ℕ) → marked names₁ 0 v ≡ false → (o : ℕ) → o < 256 → marked rows₁ v o ≡ marked rows v o
+  unnoted v off o h =
+      elim (decided (marked rows v o)) [
+        | inl e ↦ a .more v o h e ∙ sym e
+        | inr e ↦
+            elim (decided (marked rows₁ v o)) [
+              | inl on ↦ absurd (true≢false (sym (a .notes v o h e on) ∙ off))
+              | inr none ↦ none ∙ sym e
+            ]
+      ]
+
+  pub grew-trans : {rows₂ names₂ : List ℕ} → Grew C rows₁ names₁ rows₂ names₂ → Grew C rows names rows₂ names₂
+  grew-trans {rows₂} {names₂} b = record {
+    size = b .size ∙ a .size;
+    marks = b .marks ∙ a .marks;
+    more = λ v o h e. b .more v o h (a .more v o h e);
+    keeps = λ v e. b .keeps v (a .keeps v e);
+    notes = λ v o h off on.
+        elim (decided (marked rows₁ v o)) [ inl e ↦ b .keeps v (a .notes v o h off e) | inr e ↦ b .notes v o h e on ];
+    earned = λ v off on.
+        elim (decided (marked names₁ 0 v)) [
+          | inl e ↦ let x = a .earned v off e in (x .0, x .1, x .2, b .more v (x .0) (x .1) (x .3))
+          | inr e ↦ let x = b .earned v e on in (x .0, x .1, was-off v (x .0) (x .1) (x .2), x .3)
+        ];
+    least = λ M c l. b .least M c (a .least M c l);
+  }
+
+  -- where rows with property D that contain these have property C
+  pub grew-by : (D : Rows → Type 0) → ((M : Rows) → D M → Below rows M → C M) → Grew D rows names rows₁ names₁
+  grew-by D f = record {
+    size = a .size;
+    marks = a .marks;
+    more = a .more;
+    keeps = a .keeps;
+    notes = a .notes;
+    earned = a .earned;
+    least = λ M d l. a .least M (f M d l) l;
+  }
+
+-- ---- one row
+
+-- what a row lacks of another
+lacks : (rows : List ℕ) (v u : ℕ) → inside rows v rows u ≡ false → (o : ℕ) × (o < 256) × (marked rows v o ≡ true) × (marked rows u o ≡ false)
+unfolding inside
+lacks rows v u e =
+    let x = every-false 256 _ e in
+    let y = or-false _ _ (x .2) in
+    (x .0, x .1, not-false _ (y .0), y .1)
+
+not-inside : (rows : List ℕ) (v u o : ℕ) → o < 256 → marked rows v o ≡ true → marked rows u o ≡ false → inside rows v rows u ≡ false
+not-inside rows v u o h on off =
+    elim (decided (inside rows v rows u)) [ inl e ↦ absurd (true≢false (sym (inside-marked rows v rows u e o h on) ∙ off)) | inr e ↦ e ]
+
+-- four words of a row are a row
+row-word : (rows : List ℕ) (v : ℕ) (a b c d : ℕ) → a ≡ getD rows (wordAt v 0) 0 → b ≡ getD rows (wordAt v 1) 0 → c ≡ getD rows (wordAt v 2) 0
+    → d ≡ getD rows (wordAt v 3) 0 → (j : ℕ) → j < 4 → getD (a ∷ b ∷ c ∷ d ∷ []) (wordAt 0 j) 0 ≡ getD rows (wordAt v j) 0
+row-word rows v a b c d ea eb ec ed zero h = ea
+row-word rows v a b c d ea eb ec ed (suc zero) h = eb
+row-word rows v a b c d ea eb ec ed (suc (suc zero)) h = ec
+row-word rows v a b c d ea eb ec ed (suc (suc (suc zero))) h = ed
+row-word rows v a b c d ea eb ec ed (suc (suc (suc (suc j)))) h = absurd (omega (arith, h))
+
+pub row-copied : (rows : List ℕ) (v : ℕ) (a b c d : ℕ) → a ≡ getD rows (wordAt v 0) 0 → b ≡ getD rows (wordAt v 1) 0 → c ≡ getD rows (wordAt v 2) 0
+    → d ≡ getD rows (wordAt v 3) 0 → (o : ℕ) → o < 256 → marked (a ∷ b ∷ c ∷ d ∷ []) 0 o ≡ marked rows v o
+unfolding marked
+row-copied rows v a b c d ea eb ec ed o h =
+    ap (λ (x : ℕ). bit x (o % 64)) (row-word rows v a b c d ea eb ec ed (o / 64) (omega arith))
+
+-- ---- what is added
+
+module _ (rows names : List ℕ) (u v : ℕ) where
+  pub added-none : inside rows v rows u ≡ true → Added rows names u v rows names
+  unfolding markIf
+  added-none e = record {
+    size = refl;
+    is = λ x o h. same x o h (decided (eqb x u && marked rows v o));
+    noted = rw e;
+  }
+    where
+      same : (x o : ℕ) → o < 256 → (eqb x u && marked rows v o ≡ true) ⊎ (eqb x u && marked rows v o ≡ false)
+          → marked rows x o ≡ marked rows x o || (eqb x u && marked rows v o)
+      same x o h (inl k) =
+          let s = and-split (eqb x u) _ k in
+          let on : marked rows x o ≡ true = subst (λ (y : ℕ). marked rows y o ≡ true) (sym (eqb-true x u (s .0))) (inside-marked rows v rows u e o h (s .1)) in
+          rw on
+      same x o h (inr k) = rw k (either (marked rows x o))
+        where
+          either : (b : Bool) → b ≡ b || false
+          either true = refl
+          either false = refl
+
+  pub added-row : inside rows v rows u ≡ false → (row rows′ : List ℕ) → ((o : ℕ) → o < 256 → marked row 0 o ≡ marked rows v o) → Joined rows rows′ u row 0
+      → Added rows names u v rows′ (markIf names true u)
+  added-row e row rows′ copied j = record {
+    size = j .size;
+    is = λ x o h. j .rows x o h ∙ ap (λ (b : Bool). marked rows x o || (eqb x u && b)) (copied o h);
+    noted = rw e;
+  }
+
+-- what asks row u for row v
+abbrev pub Asks : ℕ → ℕ → Rows → Type 0
+Asks u v M = (o : ℕ) → o < 256 → M v o ≡ true → M u o ≡ true
+
+module _ {rows names : List ℕ} {u v : ℕ} {rows′ names′ : List ℕ} (a : Added rows names u v rows′ names′) (four : length names ≡ 4) (small : u < 256) where
+  -- the names that are noted
+  names-are : (x : ℕ) → marked names′ 0 x ≡ marked names 0 x || (not (inside rows v rows u) && eqb x u)
+  names-are x = ap (λ (l : List ℕ). marked l 0 x) (a .noted) ∙ marked-more names (not (inside rows v rows u)) u x four small
+
+  pub grew-added : Grew (Asks u v) rows names rows′ names′
+  grew-added = record {
+    size = a .size;
+    marks = ap length (a .noted) ∙ markIf-length names _ u;
+    more = λ x o h e. a .is x o h ∙ or-left _ _ e;
+    keeps = λ x e. names-are x ∙ or-left _ _ e;
+    notes = λ x o h off on.
+        let k = new x o h off on in
+        let e = eqb-true x u (k .0) in
+        names-are x ∙ or-right (marked names 0 x) _
+        (and-join (ap not (not-inside rows v u o h (k .1) (subst (λ (y : ℕ). marked rows y o ≡ false) e off))) (k .0));
+    earned = λ x off on.
+        let k = earns x off on in
+        let l = lacks rows v u (not-true _ (k .0)) in
+        let e = eqb-true x u (k .1) in
+        (l .0, l .1, subst (λ (y : ℕ). marked rows y (l .0) ≡ false) (sym e) (l .3), a .is x (l .0) (l .1) ∙ or-right (marked rows x (l .0)) _ (and-join (k .1) (l .2)));
+    least = λ M asks below x o h on.
+        elim (or-split (marked rows x o) (eqb x u && marked rows v o) (sym (a .is x o h) ∙ on)) [
+          | inl e ↦ below x o h e
+          | inr e ↦
+              let k = and-split (eqb x u) _ e in
+              subst (λ (y : ℕ). M y o ≡ true) (sym (eqb-true x u (k .0))) (asks o h (below v o h (k .1)))
+        ];
+  }
+    where
+      new : (x o : ℕ) → o < 256 → marked rows x o ≡ false → marked rows′ x o ≡ true → (eqb x u ≡ true) × (marked rows v o ≡ true)
+      new x o h off on =
+          elim (or-split (marked rows x o) (eqb x u && marked rows v o) (sym (a .is x o h) ∙ on)) [
+            | inl e ↦ absurd (true≢false (sym e ∙ off))
+            | inr e ↦ and-split _ _ e
+          ]
+
+      earns : (x : ℕ) → marked names 0 x ≡ false → marked names′ 0 x ≡ true → (not (inside rows v rows u) ≡ true) × (eqb x u ≡ true)
+      earns x off on =
+          elim (or-split (marked names 0 x) (not (inside rows v rows u) && eqb x u) (sym (names-are x) ∙ on)) [
+            | inl e ↦ absurd (true≢false (sym e ∙ off))
+            | inr e ↦ and-split _ _ e
+          ]
+
+  -- row v is contained then
+  pub added-inside : inside rows′ v rows′ u ≡ true
+  added-inside =
+      marked-inside rows′ v rows′ u (λ o h on.
+      elim (or-split (marked rows v o) (eqb v u && marked rows v o) (sym (a .is v o h) ∙ on)) [
+        | inl e ↦ a .is u o h ∙ or-right (marked rows u o) _ (and-join (eq-eqb u u refl) e)
+        | inr e ↦ a .is u o h ∙ or-right (marked rows u o) _ (and-join (eq-eqb u u refl) (and-split (eqb v u) _ e .1))
+      ])
+
+-- ---- an argument that is contained, or noted, stays so
+module _ {C : Rows → Type 0} {rows names rows′ names′ : List ℕ} (a : Grew C rows names rows′ names′) (params sent : List ℕ) (m : ℕ) where
+  pub settled-grew : Settled rows names params sent m → Settled rows′ names′ params sent m
+  settled-grew s off =
+      let x = getD sent m 0 in
+      let y = getD params m 0 in
+      elim (decided (inside rows x rows y)) [
+        | inr e ↦ a .keeps x (s e)
+        | inl e ↦
+            let l = lacks rows′ x y off in
+            let was = was-off a y (l .0) (l .1) (l .3) in
+            elim (decided (marked rows x (l .0))) [
+              | inl on ↦ absurd (true≢false (sym (inside-marked rows x rows y e (l .0) (l .1) on) ∙ was))
+              | inr none ↦ a .notes x (l .0) (l .1) none (l .2)
+            ]
+      ]
+
+-- ---- argument after argument
+module _ (count : ℕ) (params sent rows names : List ℕ) where
+  -- the first n arguments are matched
+  abbrev pub MatchedTo : ℕ → List ℕ → List ℕ → Type 0
+  MatchedTo n rows′ names′ =
+      Grew (Matched count params sent) rows names rows′ names′ × ((m : ℕ) → m < n → Settled rows′ names′ params sent m)
+
+  pub matched-more : (n : ℕ) {rows₁ names₁ rows₂ names₂ : List ℕ} → MatchedTo n rows₁ names₁ → n < count
+      → Added rows₁ names₁ (getD params n 0) (getD sent n 0) rows₂ names₂ → length names₁ ≡ 4 → getD params n 0 < 256 → MatchedTo (n + 1) rows₂ names₂
+  matched-more n {rows₁} {names₁} {rows₂} {names₂} h few a four small =
+      let g = grew-by (grew-added a four small) (Matched count params sent) (λ M d l. d n few) in (
+        grew-trans (h .0) g,
+        below-more (Settled rows₂ names₂ params sent) n (λ m l. settled-grew g params sent m (h .1 m l))
+            (λ off. absurd (true≢false (sym (added-inside a four small) ∙ off))),
+      )

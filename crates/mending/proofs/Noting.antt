@@ -1,0 +1,171 @@
+-- Pairs while rows grow: what breaks rule 3 uses a noted name, before and after.
+use Prim.Native.Nat.{ℕ, _<_}
+use native.Mathlib.Omega.{arith}
+use mathlib.Core.Path.{_≡_, refl, sym, ap, ap₂, _∙_, subst}
+use mathlib.Core.Logic.{_⊎_, inl, inr}
+use mathlib.Core.Bool.{Bool, true, false, not, _&&_, _||_, true≢false}
+use mathlib.Core.List.{List}
+use mathlib.Core.Option.{some}
+use lib.Dec.{eqb}
+use lib.ListN.{length, getD}
+use borrow.Author.Tests.{eqb-true, not-true, not-false}
+use Rattle.laws.specs.Search.{every}
+use Rattle.laws.proofs.Search.{decided, and-split, and-join, or-split, or-right, or-left, or-false, every-true, true-every, every-false, any-same, true-any}
+use Rattle.laws.proofs.Search.{any-false, any-true}
+use Rattle.marks.specs.Marks.{marked, share, inside}
+use Rattle.marks.proofs.Laws.{inside-marked, marked-inside}
+use Rattle.model.specs.Tree.{Array, Agent, agentAt, isAgent}
+use Rattle.model.specs.Memory.{isOut}
+use Rattle.model.specs.Rules.{Table, Live, Rule3, within}
+use Rattle.model.specs.Mend.{Rows, withRows}
+use Rattle.model.proofs.Verdict.{live-Live, live-more}
+use Rattle.records.specs.declared.Record.{Record}
+use Rattle.records.specs.declared.Trailer.{Trailer}
+use Rattle.records.specs.Record.{nodeOf, argsOf}
+use Rattle.records.specs.Kinds.{isReceiver}
+use Rattle.records.proofs.KindLaws.{sender-is}
+use Rattle.arrays.specs.Agents.{agentIn}
+use Rattle.arrays.proofs.Agents.{agent-is, arity-is}
+use Rattle.pairs.specs.declared.Side.{Side}
+use Rattle.pairs.specs.Pairs.{Setting, setting, Given, Held, arrayIn, tableIn, bearsBoth, argumentHolds, allHold, breaksPair}
+use Rattle.pairs.proofs.Laws.{near, alive, live-near, meet-sends, live-is, agent-p, arities, arg-is}
+use Rattle.senders.specs.Sets.{sendsMarked}
+use Rattle.mending.specs.Growing.{Below, Grew, Matched, PairAnswer, RuleThree, touches, Noted}
+use Rattle.mending.proofs.Growth.{grew-same, grew-by, unnoted}
+
+-- a setting with other rows
+abbrev pub regrown : Setting → List ℕ → Setting
+regrown S rows = setting (S .f) (S .t) (S .n) rows (S .loads) (S .bounds)
+
+pub given-again : {S : Setting} → Given S → {rows : List ℕ} → length rows ≡ length (S .rows) → Given (regrown S rows)
+given-again g e = record {
+  read = g .read;
+  lists = record { few = g .lists .few; manyRows = e ∙ g .lists .manyRows; manyBounds = g .lists .manyBounds };
+  weighed = g .weighed;
+}
+
+-- ---- a pair breaks rule 3 where it is live and an argument is not contained
+
+pub broken-live : (S : Setting) (p q : Side) → breaksPair 3 S p q ≡ true → alive S p q ≡ true
+broken-live S p q e = and-split (alive S p q) _ e .0
+
+pub broken-at : (S : Setting) (p q : Side) → breaksPair 3 S p q ≡ true → (m : ℕ) × (m < p .node .arity) × (argumentHolds (S .rows) p q m ≡ false)
+broken-at S p q e = every-false (p .node .arity) _ (not-true _ (and-split (alive S p q) _ e .1))
+
+-- names that are not marked
+module _ (names : List ℕ) (p q : Side) (e : touches names p q ≡ false) where
+  pub channel-off : marked names 0 (p .node .name) ≡ false
+  channel-off = or-false _ _ e .0
+
+  pub own-off : marked names 0 (q .node .name) ≡ false
+  own-off = or-false (marked names 0 (q .node .name)) _ (or-false (marked names 0 (p .node .name)) _ e .1) .0
+
+  pub sent-off : (m : ℕ) → m < q .node .arity → marked names 0 (getD (q .node .args) m 0) ≡ false
+  sent-off = any-false _ _ (or-false (marked names 0 (q .node .name)) _ (or-false (marked names 0 (p .node .name)) _ e .1) .1)
+
+-- ---- what was noted stays noted
+
+module _ {S : Setting} (g : Given S) {p : Side} (hp : Held S p) (rp : isReceiver (nodeOf (p .node)) ≡ true) {q : Side} (hq : Held S q) where
+  module _ {C : Rows → Type 0} {names rows′ names′ : List ℕ} (a : Grew C (S .rows) names rows′ names′) where
+    same-share : touches names′ p q ≡ false → share rows′ (p .node .name) rows′ (q .node .name) ≡ share (S .rows) (p .node .name) (S .rows) (q .node .name)
+    unfolding share
+    same-share off =
+        any-same 256 _ _ (λ o h.
+        ap₂ _&&_ (unnoted a (p .node .name) (channel-off names′ p q off) o h) (unnoted a (q .node .name) (own-off names′ p q off) o h))
+
+    -- where no name is noted, the pair is live as it was, and breaks the rule only if it did
+    still : touches names′ p q ≡ false → breaksPair 3 (regrown S rows′) p q ≡ true → breaksPair 3 S p q ≡ true
+    still off e =
+        let l = was-live in
+        and-join l (ap not (fails (broken-at (regrown S rows′) p q e)))
+      where
+        was-live : alive S p q ≡ true
+        was-live =
+            ap (λ (b : Bool). (isOut (nodeOf (q .node)) && eqb (p .node .arity) (q .node .arity) && b)
+            && every (S .n) (bearsBoth (S .loads) (S .bounds) (p .number) (q .number))) (sym (same-share off))
+            ∙ broken-live (regrown S rows′) p q e
+
+        fails : (m : ℕ) × (m < p .node .arity) × (argumentHolds rows′ p q m ≡ false) → allHold 3 (S .n) (S .rows) (S .loads) p q ≡ false
+        fails x =
+            elim (decided (allHold 3 (S .n) (S .rows) (S .loads) p q)) [
+              | inr k ↦ k
+              | inl k ↦
+                  let m = x .0 in
+                  let few : m < q .node .arity = subst (λ (n : ℕ). m < n) (arities g hp rp hq (live-near S p q was-live)) (x .1) in
+                  absurd (true≢false (sym (marked-inside rows′ _ rows′ _ (λ o h on.
+                  a .more _ o h (inside-marked (S .rows) _ (S .rows) _ (every-true _ _ k m (x .1)) o h
+                  (sym (unnoted a _ (sent-off names′ p q off m few) o h) ∙ on)))) ∙ x .2))
+            ]
+
+    pub noted-grew : Noted S names p q → Noted (regrown S rows′) names′ p q
+    noted-grew was e =
+        elim (decided (touches names′ p q)) [
+          | inl on ↦ on
+          | inr off ↦ absurd (true≢false (sym (wider (was (still off e))) ∙ off))
+        ]
+      where
+        wider : touches names p q ≡ true → touches names′ p q ≡ true
+        wider k =
+            elim (or-split (marked names 0 (p .node .name)) (marked names 0 (q .node .name) || sendsMarked names (q .node)) k) [
+              | inl x ↦ or-left _ _ (a .keeps _ x)
+              | inr x ↦
+                  or-right (marked names′ 0 (p .node .name)) _
+                  (elim (or-split (marked names 0 (q .node .name)) (sendsMarked names (q .node)) x) [
+                    | inl y ↦ or-left _ _ (a .keeps _ y)
+                    | inr y ↦
+                        let z = any-true (q .node .arity) (λ m. marked names 0 (getD (q .node .args) m 0)) y in
+                        or-right (marked names′ 0 (q .node .name)) _
+                        (true-any (q .node .arity) (λ m. marked names′ 0 (getD (q .node .args) m 0)) (z .0) (z .1) (a .keeps _ (z .2)))
+                  ])
+            ]
+
+  -- ---- a pair that was looked at
+
+  -- rows that meet rule 3 and contain these match the arguments of a live pair
+  matched : alive S p q ≡ true → (M : Rows) → RuleThree S M → Below (S .rows) M → Matched (p .node .arity) (p .node .args) (q .node .args) M
+  unfolding within
+  matched l M rule below m few o h on =
+      let agent = agent-p g hp rp hq in
+      let sends = meet-sends S p q (live-near S p q l) in
+      let other = sender-is (q .node) sends .0 in
+      let a = arrayIn S in
+      let P = agentIn a (p .node) in
+      let Q = agentIn a (q .node) in
+      let lives : Live (tableIn S) (p .number) (q .number) P Q = live-Live (tableIn S) (p .number) (q .number) P Q (live-is g hp rp hq other ∙ l) in
+      let more : Live (withRows (tableIn S) M) (p .number) (q .number) P Q =
+      live-more (tableIn S) (withRows (tableIn S) M) (below (p .node .name)) (below (q .node .name)) (λ k b. (k, b, refl)) lives in
+      let few′ : m < length (argsOf (p .node)) = rw (arity-is (g .read) hp) few in
+      let also : m < q .node .arity = subst (λ (n : ℕ). m < n) (arities g hp rp hq (live-near S p q l)) few in
+      subst (λ (x : ℕ). M x o ≡ true) (arg-is (p .node) m few)
+      (rule (p .number) (hp .below) (q .number) (hq .below) P Q (agent-is (g .read) hp agent) (agent-is (g .read) hq other) more m few′ o h
+      (subst (λ (x : ℕ). M x o ≡ true) (sym (arg-is (q .node) m also)) on))
+
+  module _ {names rows′ names′ : List ℕ} (x : PairAnswer (breaksPair 3 S p q) (p .node) (q .node) (S .rows) names rows′ names′) where
+    pub pair-grew : Grew (RuleThree S) (S .rows) names rows′ names′
+    pair-grew =
+        elim (decided (breaksPair 3 S p q)) [
+          | inl e ↦ grew-by (x .grew e) (RuleThree S) (matched (broken-live S p q e))
+          | inr e ↦
+              let k = x .same e in
+              subst (λ (r : List ℕ). Grew (RuleThree S) (S .rows) names r names′) (sym (k .0))
+              (subst (λ (n : List ℕ). Grew (RuleThree S) (S .rows) names (S .rows) n) (sym (k .1)) (grew-same (RuleThree S) (S .rows) names))
+        ]
+
+    pub pair-noted : Noted (regrown S rows′) names′ p q
+    pair-noted e =
+        elim (decided (breaksPair 3 S p q)) [
+          | inl was ↦
+              let y = broken-at (regrown S rows′) p q e in
+              let l = live-near (regrown S rows′) p q (broken-live (regrown S rows′) p q e) in
+              let few : y .0 < q .node .arity = subst (λ (n : ℕ). y .0 < n) (arities (given-again g (pair-grew .size)) hp rp hq l) (y .1) in
+              or-right (marked names′ 0 (p .node .name)) _ (or-right (marked names′ 0 (q .node .name)) _
+              (true-any (q .node .arity) (λ m. marked names′ 0 (getD (q .node .args) m 0)) (y .0) few (x .settled was (y .0) (y .1) (y .2))))
+          | inr was ↦
+              let k = x .same was in
+              absurd (true≢false (sym e ∙ subst (λ (r : List ℕ). breaksPair 3 (regrown S r) p q ≡ false) (sym (k .0)) was))
+        ]
+
+-- the same by another test that says the same
+pub answer-by : {b d : Bool} {p q : Record} {rows names rows′ names′ : List ℕ} → b ≡ d → PairAnswer b p q rows names rows′ names′
+    → PairAnswer d p q rows names rows′ names′
+answer-by e x = record { same = λ k. x .same (e ∙ k); grew = λ k. x .grew (e ∙ k); settled = λ k. x .settled (e ∙ k) }

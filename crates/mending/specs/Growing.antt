@@ -1,0 +1,117 @@
+-- How rows grow while a table is mended. The names whose rows got a mark are noted: only pairs that use such a name have to be looked at again.
+use Prim.Native.Nat.{ℕ, _<_}
+use mathlib.Core.Path.{_≡_}
+use mathlib.Core.Bool.{Bool, true, false, not, _&&_, _||_}
+use mathlib.Core.List.{List}
+use lib.Dec.{eqb, ltb}
+use lib.ListN.{length, getD}
+use Rattle.marks.specs.Marks.{marked, markIf, inside}
+use Rattle.model.specs.Tree.{Array, isNew}
+use Rattle.model.specs.Rules.{Rule3}
+use Rattle.model.specs.Mend.{Rows, withRows}
+use Rattle.records.specs.declared.Record.{Record}
+use Rattle.records.specs.declared.Trailer.{Trailer}
+use Rattle.records.specs.Record.{nodeOf}
+use Rattle.records.specs.Kinds.{isReceiver}
+use Rattle.pairs.specs.declared.Side.{Side}
+use Rattle.pairs.specs.Pairs.{Setting, setting, Held, arrayIn, tableIn, breaksPair}
+use Rattle.senders.specs.Sets.{Family, sendsMarked, sendsBy, Gathered}
+
+-- ---- rows that grow
+
+-- every mark of the list is in rows M
+abbrev pub Below : List ℕ → Rows → Type 0
+Below rows M = (v o : ℕ) → o < 256 → marked rows v o ≡ true → M v o ≡ true
+
+-- the list with rows, and the names noted, before and after; nothing is set that rows with property C can do without
+pub record Grew (C : Rows → Type 0) (rows names rows′ names′ : List ℕ) : Type 0 where
+  pub size : length rows′ ≡ length rows
+  pub marks : length names′ ≡ length names
+  pub more : (v o : ℕ) → o < 256 → marked rows v o ≡ true → marked rows′ v o ≡ true
+  pub keeps : (v : ℕ) → marked names 0 v ≡ true → marked names′ 0 v ≡ true
+  -- a name whose row got a mark is noted
+  pub notes : (v o : ℕ) → o < 256 → marked rows v o ≡ false → marked rows′ v o ≡ true → marked names′ 0 v ≡ true
+  -- and no other
+  pub earned : (v : ℕ) → marked names 0 v ≡ false → marked names′ 0 v ≡ true
+      → (o : ℕ) × (o < 256) × (marked rows v o ≡ false) × (marked rows′ v o ≡ true)
+  pub least : (M : Rows) → C M → Below rows M → Below rows′ M
+
+-- row u has the marks of row v beside its own, and name u is noted where one of them is new
+pub record Added (rows names : List ℕ) (u v : ℕ) (rows′ names′ : List ℕ) : Type 0 where
+  pub size : length rows′ ≡ length rows
+  pub is : (x o : ℕ) → o < 256 → marked rows′ x o ≡ marked rows x o || (eqb x u && marked rows v o)
+  pub noted : names′ ≡ markIf names (not (inside rows v rows u)) u
+
+-- ---- a pair
+
+-- what n parameters ask of what is sent: argument m's row is contained in parameter m's
+abbrev pub Matched : ℕ → List ℕ → List ℕ → Rows → Type 0
+Matched n params sent M = (m : ℕ) → m < n → (o : ℕ) → o < 256 → M (getD sent m 0) o ≡ true → M (getD params m 0) o ≡ true
+
+-- argument m is contained, or noted
+abbrev pub Settled : List ℕ → List ℕ → List ℕ → List ℕ → ℕ → Type 0
+Settled rows names params sent m = inside rows (getD sent m 0) rows (getD params m 0) ≡ false → marked names 0 (getD sent m 0) ≡ true
+
+-- a pair that does not break rule 3 changes nothing; the rows of another are matched
+pub record PairAnswer (breaks : Bool) (p q : Record) (rows names rows′ names′ : List ℕ) : Type 0 where
+  pub same : breaks ≡ false → (rows′ ≡ rows) × (names′ ≡ names)
+  pub grew : breaks ≡ true → Grew (Matched (p .arity) (p .args) (q .args)) rows names rows′ names′
+  pub settled : breaks ≡ true → (m : ℕ) → m < p .arity → Settled rows′ names′ (p .args) (q .args) m
+
+-- ---- pairs of an array
+
+-- rows that meet rule 3 under the setting's balances; the setting's own rows do not matter
+abbrev pub RuleThree : Setting → Rows → Type 0
+RuleThree S M = Rule3 (arrayIn S) (withRows (tableIn S) M)
+
+-- the pair uses a marked name: the receiver's channel, the sender's, or what is sent
+abbrev pub touches : List ℕ → Side → Side → Bool
+touches names p q = marked names 0 (p .node .name) || (marked names 0 (q .node .name) || sendsMarked names (q .node))
+
+-- a pair that breaks rule 3 uses a noted name
+abbrev pub Noted : Setting → List ℕ → Side → Side → Type 0
+Noted S names p q = breaksPair 3 S p q ≡ true → touches names p q ≡ true
+
+-- the sets were gathered from rows that differ from these in rows of noted names alone
+pub record Stale (f : List ℕ) (t : Trailer) (n : ℕ) (rows loads bounds names chosen : List ℕ) (F : Family) (links : List ℕ) : Type 0 where
+  pub old : List ℕ
+  pub size : length old ≡ 1024
+  pub more : (v o : ℕ) → o < 256 → marked old v o ≡ true → marked rows v o ≡ true
+  pub since : (v o : ℕ) → o < 256 → marked old v o ≡ false → marked rows v o ≡ true → marked names 0 v ≡ true
+  pub gathered : Gathered 3 (setting f t n old loads bounds) chosen F links
+
+-- ---- which pairs were looked at: each that breaks rule 3 still uses a noted name
+
+-- those of receiver p and the chosen senders of set g
+abbrev pub SetNoted : Setting → List ℕ → List ℕ → (ℕ → ℕ) → Side → ℕ → Type 0
+SetNoted S names chosen sets p g =
+    (q : Side) → Held S q → sendsBy chosen (q .node) ≡ true → sets (q .number) ≡ g → Noted S names p q
+
+-- those of receiver p and all chosen senders
+abbrev pub AllNoted : Setting → List ℕ → List ℕ → Side → Type 0
+AllNoted S names chosen p = (q : Side) → Held S q → sendsBy chosen (q .node) ≡ true → Noted S names p q
+
+-- those of node i, where it receives on a name in `reach`
+abbrev pub NodeNoted : Setting → List ℕ → List ℕ → List ℕ → ℕ → Type 0
+NodeNoted S names chosen reach i =
+    (p : Side) → Held S p → p .number ≡ i → isReceiver (nodeOf (p .node)) ≡ true → marked reach 0 (p .node .name) ≡ true → AllNoted S names chosen p
+
+-- those of the nodes below n
+abbrev pub Swept : Setting → List ℕ → List ℕ → List ℕ → ℕ → Type 0
+Swept S names chosen reach n = (i : ℕ) → i < n → NodeNoted S names chosen reach i
+
+-- all pairs
+abbrev pub Clean : Setting → List ℕ → Type 0
+Clean S names = (p q : Side) → Held S p → Held S q → isReceiver (nodeOf (p .node)) ≡ true → Noted S names p q
+
+-- ---- the rows in the end: they have the marks that there were, meet rule 3, and have no mark that rows which meet it can do without
+pub record Finished (S : Setting) (rows′ : List ℕ) : Type 0 where
+  pub size : length rows′ ≡ 1024
+  pub more : (v o : ℕ) → o < 256 → marked (S .rows) v o ≡ true → marked rows′ v o ≡ true
+  pub rule3 : RuleThree S (marked rows′)
+  pub least : (M : Rows) → RuleThree S M → Below (S .rows) M → Below rows′ M
+
+-- ---- rule 1: the own mark of each name that a new opens, beside the marks that there were
+pub record OwnMarked (a : Array) (n : ℕ) (rows rows′ : List ℕ) : Type 0 where
+  pub size : length rows′ ≡ length rows
+  pub is : (v o : ℕ) → o < 256 → marked rows′ v o ≡ marked rows v o || (ltb v n && (eqb o v && isNew a v))

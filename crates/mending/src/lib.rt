@@ -1,0 +1,445 @@
+// The mended rows of a table, and its file. Passes over pairs set what rule 3 asks for, until no row changes; a pass looks only at pairs that use a
+// name whose row changed in the pass before, and sets of senders are asked before single ones.
+// Promises the rows that the model's rounds find, written with their word sum, and the number of bits set. Depends on lists (rows, loads, bounds), flows
+// (rows as bytes), filter and senders (sets of senders), pairs, frees (the names that news open), layout, loads, arrays, records, marks, wire, model and
+// laws. The lists take 106,592 bytes of stack, those of a sweep 6,712.
+ghost use mathlib.Core.Path.{_≡_};
+ghost use mathlib.Core.Bool.{true, not, _&&_};
+ghost use mathlib.Core.List.{List};
+ghost use Prim.Native.Nat.{ℕ, _<_, _≤_};
+ghost use lib.ListN.{length, replicate};
+ghost use Rattle.laws.specs.Lists.{put};
+ghost use Rattle.model.specs.Tree.{isAgent};
+ghost use Rattle.model.specs.Mend.{mended, bitsSet};
+ghost use Rattle.records.specs.Record.{nodeOf, recordOf, arrayOf, RecordsFit};
+ghost use Rattle.records.specs.Kinds.{isReceiver};
+ghost use Rattle.arrays.specs.File.{IsRead};
+ghost use Rattle.arrays.specs.Agents.{Reads};
+ghost use Rattle.layout.specs.Table.{tableOf, IsTable};
+ghost use Rattle.flows.specs.Written.{rewritten};
+ghost use Rattle.pairs.specs.Pairs.{setting, Given, meets, liveBy, allHoldBy, Rooms, Figures, NameRow};
+ghost use Rattle.senders.specs.Sets.{family, Member, Linked};
+ghost use Rattle.mending.specs.Growing.{Grew, Added, Matched, Settled, PairAnswer, RuleThree, Noted, Stale};
+ghost use Rattle.mending.specs.Growing.{SetNoted, AllNoted, NodeNoted, Swept, Clean, Finished, OwnMarked};
+use layout::Sizes;
+use pairs::Side;
+use records::Record;
+use records::Trailer;
+
+// Row u gets the marks of row v; where one is new, name u is noted.
+fn add_row(rows: &mut [u64], names: &mut [u64], u: usize, v: usize)
+    requires { ⌜ (length (now rows) ≡ 1024) × (length (now names) ≡ 4) × (u < 256) × (v < 256) ⌝ }
+    ensures { λ _. ⌜ Added (now (rows .entry)) (now (names .entry)) u v (now (rows .exit)) (now (names .exit)) ⌝ }
+{
+    if marks::contained(rows, v, rows, u) {
+        return;
+    }
+    let row = [
+        marks::word_at(rows, v, 0),
+        marks::word_at(rows, v, 1),
+        marks::word_at(rows, v, 2),
+        marks::word_at(rows, v, 3),
+    ];
+    marks::join(rows, u, &row, 0);
+    marks::mark_if(names, true, u);
+}
+
+// Each parameter's row gets the marks of the matching sent name's.
+fn add_args(rows: &mut [u64], names: &mut [u64], p: Record, q: Record)
+    requires { ⌜ (length (now rows) ≡ 1024) × (length (now names) ≡ 4) × (p .arity ≤ 8) ⌝ }
+    ensures { λ _. ⌜ Grew (Matched (p .arity) (p .args) (q .args)) (now (rows .entry)) (now (names .entry)) (now (rows .exit)) (now (names .exit)) ⌝ }
+    ensures { λ _. ⌜ ((m : ℕ) → m < p .arity → Settled (now (rows .exit)) (now (names .exit)) (p .args) (q .args) m) ⌝ }
+{
+    let bound = p.args;
+    let sent = q.args;
+    let arity = p.arity;
+    let mut n: usize = 0;
+    while n < arity {
+        add_row(
+            rows,
+            names,
+            wire::byte_index(bound[n]),
+            wire::byte_index(sent[n]),
+        );
+        n += 1;
+    }
+}
+
+// The pair's rows are matched where it is live and breaks rule 3.
+fn mend_pair(
+    rows: &mut [u64],
+    names: &mut [u64],
+    balances: usize,
+    loads: &[u32],
+    gives: &[u32],
+    rooms: &[u32],
+    p: Side,
+    q: Side,
+)
+    requires { ⌜ (length (now rows) ≡ 1024) × (length (now names) ≡ 4) × (p .node .arity ≤ 8) × Rooms balances (now loads) (now rooms) (q .number) ⌝ }
+    requires { ⌜ (isAgent (nodeOf (p .node)) ≡ true) × NameRow (now rows) p × NameRow (now rows) q ⌝ }
+    requires { ⌜ (meets (now rows) p q ≡ true → Figures 3 balances (now rows) (now loads) (now gives) p q) ⌝ }
+    ensures { λ _. ⌜ PairAnswer (liveBy (now (rows .entry)) (now (loads .entry)) (now (rooms .entry)) balances p q
+        && not (allHoldBy 3 balances (now (rows .entry)) (now (loads .entry)) (now (gives .entry)) p q))
+        (p .node) (q .node) (now (rows .entry)) (now (names .entry)) (now (rows .exit)) (now (names .exit)) ⌝ }
+{
+    if pairs::breaks(3, balances, rows, loads, gives, rooms, p, q) {
+        add_args(rows, names, p.node, q.node);
+    }
+}
+
+// The pairs of p and the senders that the links of set g pass.
+fn mend_members(
+    rows: &mut [u64],
+    names: &mut [u64],
+    file: &[u8],
+    t: Trailer,
+    balances: usize,
+    loads: &[u32],
+    bounds: &[u32],
+    links: &[u16],
+    g: usize,
+    p: Side,
+)
+    requires { ⌜ Given (setting (now file) t balances (now rows) (now loads) (now bounds)) × (length (now names) ≡ 4) × (g < 12) ⌝ }
+    requires { ⌜ Reads (now file) t (p .number) (p .node) × (isReceiver (nodeOf (p .node)) ≡ true) ⌝ }
+    requires { ⌜ ((chosen : List ℕ) × (sets : ℕ → ℕ) × Linked (now file) t chosen sets (now links)) ⌝ }
+    ensures { λ _. ⌜ Grew (RuleThree (setting (now (file .entry)) t balances (now (rows .entry)) (now (loads .entry)) (now (bounds .entry))))
+        (now (rows .entry)) (now (names .entry)) (now (rows .exit)) (now (names .exit)) ⌝ }
+    ensures { λ _. ⌜ ((chosen : List ℕ) (sets : ℕ → ℕ) → Linked (now (file .entry)) t chosen sets (now (links .entry))
+        → (j : ℕ) → Member (now (file .entry)) t chosen sets g j
+        → Noted (setting (now (file .entry)) t balances (now (rows .exit)) (now (loads .entry)) (now (bounds .entry))) (now (names .exit)) p
+        record { number = j; node = recordOf (now (file .entry)) t j }) ⌝ }
+{
+    let mut gives = [0u32; 24];
+    let mut rooms = [0u32; 24];
+    pairs::differences(&mut gives, &mut rooms, balances, loads, bounds, p);
+    let mut next = wire::number_index(links[senders::last_link(g)]);
+    while 0 < next {
+        let j = next - 1;
+        let q = Side {
+            number: j,
+            node: records::node_at(file, t, j),
+        };
+        mend_pair(rows, names, balances, loads, &gives, &rooms, p, q);
+        next = wire::number_index(links[j]);
+    }
+}
+
+// The pairs of p and the senders of set g. None of them is looked at where no sender may come, or where all that the set sends is contained already.
+fn mend_set(
+    rows: &mut [u64],
+    names: &mut [u64],
+    file: &[u8],
+    t: Trailer,
+    balances: usize,
+    loads: &[u32],
+    bounds: &[u32],
+    needs: &[u32],
+    unions: &[u64],
+    arities: &[u64],
+    links: &[u16],
+    g: usize,
+    p: Side,
+)
+    requires { ⌜ Given (setting (now file) t balances (now rows) (now loads) (now bounds)) × (length (now names) ≡ 4) × (g < 12) ⌝ }
+    requires { ⌜ Reads (now file) t (p .number) (p .node) × (isReceiver (nodeOf (p .node)) ≡ true) ⌝ }
+    requires { ⌜ ((chosen : List ℕ) × Stale (now file) t balances (now rows) (now loads) (now bounds) (now names) chosen
+        (family (now needs) (now unions) (now arities)) (now links)) ⌝ }
+    ensures { λ _. ⌜ Grew (RuleThree (setting (now (file .entry)) t balances (now (rows .entry)) (now (loads .entry)) (now (bounds .entry))))
+        (now (rows .entry)) (now (names .entry)) (now (rows .exit)) (now (names .exit)) ⌝ }
+    ensures { λ _. ⌜ ((chosen : List ℕ) (k : Stale (now (file .entry)) t balances (now (rows .entry)) (now (loads .entry)) (now (bounds .entry))
+        (now (names .entry)) chosen (family (now (needs .entry)) (now (unions .entry)) (now (arities .entry))) (now (links .entry)))
+        → SetNoted (setting (now (file .entry)) t balances (now (rows .exit)) (now (loads .entry)) (now (bounds .entry))) (now (names .exit)) chosen
+        (k .gathered .sets) p g) ⌝ }
+{
+    if !filter::may_come(unions, arities, rows, g, p) {
+        return;
+    }
+    if filter::args_inside(unions, rows, g, p.node) {
+        return;
+    }
+    mend_members(rows, names, file, t, balances, loads, bounds, links, g, p);
+}
+
+// The pairs of p and all senders that were gathered.
+fn mend_receiver(
+    rows: &mut [u64],
+    names: &mut [u64],
+    file: &[u8],
+    t: Trailer,
+    balances: usize,
+    loads: &[u32],
+    bounds: &[u32],
+    needs: &[u32],
+    unions: &[u64],
+    arities: &[u64],
+    links: &[u16],
+    p: Side,
+)
+    requires { ⌜ Given (setting (now file) t balances (now rows) (now loads) (now bounds)) × (length (now names) ≡ 4) ⌝ }
+    requires { ⌜ Reads (now file) t (p .number) (p .node) × (isReceiver (nodeOf (p .node)) ≡ true) ⌝ }
+    requires { ⌜ ((chosen : List ℕ) × Stale (now file) t balances (now rows) (now loads) (now bounds) (now names) chosen
+        (family (now needs) (now unions) (now arities)) (now links)) ⌝ }
+    ensures { λ _. ⌜ Grew (RuleThree (setting (now (file .entry)) t balances (now (rows .entry)) (now (loads .entry)) (now (bounds .entry))))
+        (now (rows .entry)) (now (names .entry)) (now (rows .exit)) (now (names .exit)) ⌝ }
+    ensures { λ _. ⌜ ((chosen : List ℕ) → Stale (now (file .entry)) t balances (now (rows .entry)) (now (loads .entry)) (now (bounds .entry))
+        (now (names .entry)) chosen (family (now (needs .entry)) (now (unions .entry)) (now (arities .entry))) (now (links .entry))
+        → AllNoted (setting (now (file .entry)) t balances (now (rows .exit)) (now (loads .entry)) (now (bounds .entry))) (now (names .exit)) chosen p) ⌝ }
+{
+    let mut g: usize = 0;
+    while g < 12 {
+        mend_set(
+            rows,
+            names,
+            file,
+            t,
+            balances,
+            loads,
+            bounds,
+            needs,
+            unions,
+            arities,
+            links,
+            g,
+            p,
+        );
+        g += 1;
+    }
+}
+
+// The pairs of node i, where it receives on a name that is marked in `reach`, and all senders that were gathered.
+fn mend_node(
+    reach: &[u64],
+    rows: &mut [u64],
+    names: &mut [u64],
+    file: &[u8],
+    t: Trailer,
+    balances: usize,
+    loads: &[u32],
+    bounds: &[u32],
+    needs: &[u32],
+    unions: &[u64],
+    arities: &[u64],
+    links: &[u16],
+    i: usize,
+)
+    requires { ⌜ Given (setting (now file) t balances (now rows) (now loads) (now bounds)) × (length (now names) ≡ 4) × (length (now reach) ≡ 4)
+        × (i < t .nodes) ⌝ }
+    requires { ⌜ ((chosen : List ℕ) × Stale (now file) t balances (now rows) (now loads) (now bounds) (now names) chosen
+        (family (now needs) (now unions) (now arities)) (now links)) ⌝ }
+    ensures { λ _. ⌜ Grew (RuleThree (setting (now (file .entry)) t balances (now (rows .entry)) (now (loads .entry)) (now (bounds .entry))))
+        (now (rows .entry)) (now (names .entry)) (now (rows .exit)) (now (names .exit)) ⌝ }
+    ensures { λ _. ⌜ ((chosen : List ℕ) → Stale (now (file .entry)) t balances (now (rows .entry)) (now (loads .entry)) (now (bounds .entry))
+        (now (names .entry)) chosen (family (now (needs .entry)) (now (unions .entry)) (now (arities .entry))) (now (links .entry))
+        → NodeNoted (setting (now (file .entry)) t balances (now (rows .exit)) (now (loads .entry)) (now (bounds .entry))) (now (names .exit)) chosen
+        (now (reach .entry)) i) ⌝ }
+{
+    let p = Side {
+        number: i,
+        node: records::node_at(file, t, i),
+    };
+    if pairs::figures(3, balances, p.node) == 0 {
+        return;
+    }
+    if !marks::is_marked(reach, 0, p.node.name) {
+        return;
+    }
+    mend_receiver(
+        rows,
+        names,
+        file,
+        t,
+        balances,
+        loads,
+        bounds,
+        needs,
+        unions,
+        arities,
+        links,
+        p,
+    );
+}
+
+// The pairs of a receiver on a name that is marked in `reach` and a sender that uses a name that is marked in `chosen`.
+fn sweep(
+    chosen: &[u64],
+    reach: &[u64],
+    rows: &mut [u64],
+    names: &mut [u64],
+    file: &[u8],
+    t: Trailer,
+    balances: usize,
+    loads: &[u32],
+    bounds: &[u32],
+)
+    requires { ⌜ Given (setting (now file) t balances (now rows) (now loads) (now bounds)) × (length (now names) ≡ 4) × (length (now reach) ≡ 4)
+        × (length (now chosen) ≡ 4) ⌝ }
+    ensures { λ _. ⌜ Grew (RuleThree (setting (now (file .entry)) t balances (now (rows .entry)) (now (loads .entry)) (now (bounds .entry))))
+        (now (rows .entry)) (now (names .entry)) (now (rows .exit)) (now (names .exit)) ⌝ }
+    ensures { λ _. ⌜ Swept (setting (now (file .entry)) t balances (now (rows .exit)) (now (loads .entry)) (now (bounds .entry))) (now (names .exit))
+        (now (chosen .entry)) (now (reach .entry)) (t .nodes) ⌝ }
+{
+    let mut needs = [0u32; 288];
+    let mut unions = [0u64; 432];
+    let mut arities = [0u64; 4];
+    let mut links = [0u16; 1036];
+    senders::gather(
+        3,
+        true,
+        chosen,
+        &mut needs,
+        &mut unions,
+        &mut arities,
+        &mut links,
+        file,
+        t,
+        balances,
+        rows,
+        loads,
+    );
+    let mut i: usize = 0;
+    while i < t.nodes {
+        mend_node(
+            reach,
+            rows,
+            names,
+            file,
+            t,
+            balances,
+            loads,
+            bounds,
+            &needs,
+            &unions,
+            &arities,
+            &links,
+            i,
+        );
+        i += 1;
+    }
+}
+
+// A pass: the pairs that use a name of `old`. Answers the names whose rows changed.
+fn pass(
+    old: &[u64],
+    rows: &mut [u64],
+    file: &[u8],
+    t: Trailer,
+    balances: usize,
+    loads: &[u32],
+    bounds: &[u32],
+) -> [u64; 4]
+    requires { ⌜ Given (setting (now file) t balances (now rows) (now loads) (now bounds)) ⌝ }
+    requires { ⌜ (length (now old) ≡ 4) × Clean (setting (now file) t balances (now rows) (now loads) (now bounds)) (now old) ⌝ }
+    ensures { λ names. ⌜ Grew (RuleThree (setting (now (file .entry)) t balances (now (rows .entry)) (now (loads .entry)) (now (bounds .entry))))
+        (now (rows .entry)) (replicate 4 0) (now (rows .exit)) names ⌝ }
+    ensures { λ names. ⌜ Clean (setting (now (file .entry)) t balances (now (rows .exit)) (now (loads .entry)) (now (bounds .entry))) names ⌝ }
+{
+    let every = [18446744073709551615u64; 4];
+    let mut names = [0u64; 4];
+    sweep(
+        &every,
+        old,
+        rows,
+        &mut names,
+        file,
+        t,
+        balances,
+        loads,
+        bounds,
+    );
+    sweep(
+        old,
+        &every,
+        rows,
+        &mut names,
+        file,
+        t,
+        balances,
+        loads,
+        bounds,
+    );
+    names
+}
+
+// The first look at all pairs. Answers the names whose rows changed.
+fn first_pass(
+    rows: &mut [u64],
+    file: &[u8],
+    t: Trailer,
+    balances: usize,
+    loads: &[u32],
+    bounds: &[u32],
+) -> [u64; 4]
+    requires { ⌜ Given (setting (now file) t balances (now rows) (now loads) (now bounds)) ⌝ }
+    ensures { λ names. ⌜ Grew (RuleThree (setting (now (file .entry)) t balances (now (rows .entry)) (now (loads .entry)) (now (bounds .entry))))
+        (now (rows .entry)) (replicate 4 0) (now (rows .exit)) names ⌝ }
+    ensures { λ names. ⌜ Clean (setting (now (file .entry)) t balances (now (rows .exit)) (now (loads .entry)) (now (bounds .entry))) names ⌝ }
+{
+    let every = [18446744073709551615u64; 4];
+    let mut names = [0u64; 4];
+    sweep(
+        &every,
+        &every,
+        rows,
+        &mut names,
+        file,
+        t,
+        balances,
+        loads,
+        bounds,
+    );
+    names
+}
+
+// Sets what rule 3 asks for, until no row changes.
+fn mend_rows(
+    rows: &mut [u64],
+    file: &[u8],
+    t: Trailer,
+    balances: usize,
+    loads: &[u32],
+    bounds: &[u32],
+)
+    requires { ⌜ Given (setting (now file) t balances (now rows) (now loads) (now bounds)) ⌝ }
+    ensures { λ _. ⌜ Finished (setting (now (file .entry)) t balances (now (rows .entry)) (now (loads .entry)) (now (bounds .entry))) (now (rows .exit)) ⌝ }
+{
+    let none = [0u64; 4];
+    let mut names = first_pass(rows, file, t, balances, loads, bounds);
+    while !marks::contained(&names, 0, &none, 0) {
+        names = pass(&names, rows, file, t, balances, loads, bounds);
+    }
+}
+
+// Sets what rule 1 asks for.
+fn own_marks(rows: &mut [u64], file: &[u8], t: Trailer)
+    requires { ⌜ RecordsFit (now file) t × (t .names ≤ 256) × (length (now rows) ≡ 1024) ⌝ }
+    ensures { λ _. ⌜ OwnMarked (arrayOf (now (file .entry)) t) (t .names) (now (rows .entry)) (now (rows .exit)) ⌝ }
+{
+    let news = frees::opened(file, t);
+    let mut o: usize = 0;
+    while o < t.names {
+        let mut own = [0u64; 4];
+        marks::mark_if(&mut own, marks::is_marked(&news, 0, o), o);
+        marks::join(rows, o, &own, 0);
+        o += 1;
+    }
+}
+
+// Writes the mended table into the output, and answers the number of bits set.
+pub fn mend_table(output: &mut [u8], file: &[u8], t: Trailer, table: &[u8], z: Sizes) -> usize
+    requires { ⌜ IsRead (now file) t × IsTable (now file) t (now table) z × (length (now table) ≤ length (now output)) ⌝ }
+    ensures { λ n. ⌜ n ≡ bitsSet (arrayOf (now (file .entry)) t) (tableOf (now (table .entry)) z .row)
+        (mended (arrayOf (now (file .entry)) t) (tableOf (now (table .entry)) z)) ⌝ }
+    ensures { λ _. ⌜ now (output .exit) ≡ put 0 (rewritten z (mended (arrayOf (now (file .entry)) t) (tableOf (now (table .entry)) z)) (now (table .entry)))
+        (now (output .entry)) ⌝ }
+{
+    let mut rows = [0u64; 1024];
+    let mut loads = [0u32; 24576];
+    let mut bounds = [0u32; 24];
+    lists::fill_lists(&mut rows, &mut loads, &mut bounds, file, t, table, z);
+    own_marks(&mut rows, file, t);
+    mend_rows(&mut rows, file, t, z.balances, &loads, &bounds);
+    flows::write_table(output, table, &rows, z);
+    flows::new_bits(table, &rows, z)
+}
