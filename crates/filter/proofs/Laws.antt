@@ -76,7 +76,8 @@ module _ (rule : ℕ) (S : Setting) (F : Family) (links : List ℕ) (p : Side) w
       → (g : ℕ) → g < n → SetSound rule S sets p g
 
   pub sets-more : (n : ℕ) → SetsSound n
-      → ((sets : ℕ → ℕ) → Collected rule S everyName F sets (S .t .nodes) → Linked (S .f) (S .t) everyName sets links → SetSound rule S sets p n) → SetsSound (n + 1)
+      → ((sets : ℕ → ℕ) → Collected rule S everyName F sets (S .t .nodes) → Linked (S .f) (S .t) everyName sets links → SetSound rule S sets p n)
+      → SetsSound (n + 1)
   sets-more n before here sets all linked g h =
       elim (decided (eqb g n)) [
         | inl e ↦ rw (eqb-true g n e) (here sets all linked)

@@ -159,7 +159,8 @@ module _ {rows names : List ℕ} {u v : ℕ} {rows′ names′ : List ℕ} (a : 
         let k = earns x off on in
         let l = lacks rows v u (not-true _ (k .0)) in
         let e = eqb-true x u (k .1) in
-        (l .0, l .1, subst (λ (y : ℕ). marked rows y (l .0) ≡ false) (sym e) (l .3), a .is x (l .0) (l .1) ∙ or-right (marked rows x (l .0)) _ (and-join (k .1) (l .2)));
+        let off′ : marked rows x (l .0) ≡ false = subst (λ (y : ℕ). marked rows y (l .0) ≡ false) (sym e) (l .3) in
+        (l .0, l .1, off′, a .is x (l .0) (l .1) ∙ or-right (marked rows x (l .0)) _ (and-join (k .1) (l .2)));
     least = λ M asks below x o h on.
         elim (or-split (marked rows x o) (eqb x u && marked rows v o) (sym (a .is x o h) ∙ on)) [
           | inl e ↦ below x o h e

@@ -101,7 +101,8 @@ module _ {f : List ℕ} {t : Trailer} {s : List ℕ} {z : Sizes} {rows loads bou
   -- ---- so they are the mended rows of the table
 
   are-mended : (v o : ℕ) → v < t .names → o < 256 → marked last v o ≡ mended a T v o
-  are-mended v o h l = smallest-same a T (marked last) (mended a T) (smallest-alike a ok L T (listed .same) (marked last) smallest) (mended-smallest a ok T) v h o l
+  are-mended v o h l =
+      smallest-same a T (marked last) (mended a T) (smallest-alike a ok L T (listed .same) (marked last) smallest) (mended-smallest a ok T) v h o l
 
   pub same-file : z .names ≡ t .names → rewritten z (marked last) s ≡ rewritten z (mended a T) s
   same-file e = rewritten-same z (marked last) (mended a T) s (λ v o h. are-mended v o (rw e at h))

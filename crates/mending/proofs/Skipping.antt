@@ -38,8 +38,8 @@ stale-now {S} g k = record {
 }
 
 -- and of rows that have grown since
-abbrev pub stale-grew : {C : Rows → Type 0} {f : List ℕ} {t : Trailer} {n : ℕ} {rows loads bounds names chosen : List ℕ} {F : Family} {links rows′ names′ : List ℕ}
-    → Stale f t n rows loads bounds names chosen F links → Grew C rows names rows′ names′ → Stale f t n rows′ loads bounds names′ chosen F links
+abbrev pub stale-grew : {C : Rows → Type 0} {f : List ℕ} {t : Trailer} {n : ℕ} {rows loads bounds names chosen : List ℕ} {F : Family}
+    {links rows′ names′ : List ℕ} → Stale f t n rows loads bounds names chosen F links → Grew C rows names rows′ names′ → Stale f t n rows′ loads bounds names′ chosen F links
 stale-grew {rows = rows} k a = record {
   old = k .old;
   size = k .size;

@@ -1,5 +1,5 @@
-// Twelve sets of senders that use a marked name, in lists that the caller lends: for each set the arities, the rows of the channels and of what is sent, all together, and
-// the largest need in each balance; and the senders of each set, linked.
+// Twelve sets of senders that use a marked name, in lists that the caller lends: for each set the arities, the rows of the channels and of what is sent,
+// all together, and the largest need in each balance; and the senders of each set, linked.
 // Promises that each of these senders is in one set, that its set keeps what it asks of a receiver, and that the links pass every sender of a set.
 // Which set a sender is in is free. Depends on pairs (a side, what it needs), loads, arrays, records, marks, wire, model and laws.
 ghost use mathlib.Core.Path.{_≡_};

@@ -53,7 +53,8 @@ may-come-requires c κs =
 returns : tie.Need-returns
 returns c e sets all links q hq sends of =
     let s = at-start (at-shared-slice-known4 (c .before .before)) in
-    far-set (s .args .rule) (s .pre .0 .0) (s .pre .1 .0) (s .pre .1 .1) (kept s) (s .args .g) q hq (and-split _ _ sends .0) (rw of at (all .covers q hq sends (hq .below)))
+    far-set (s .args .rule) (s .pre .0 .0) (s .pre .1 .0) (s .pre .1 .1) (kept s) (s .args .g) q hq (and-split _ _ sends .0)
+    (rw of at (all .covers q hq sends (hq .below)))
     (sym (c .before .may-come .ensures) ∙ not-true _ (c .if1 .taken))
 
 figures-pass-requires : tie.Need-figures-pass-requires
@@ -81,7 +82,8 @@ figures-pass-requires c κs =
 returns-2 : tie.Need-returns-2
 returns-2 c e sets all links q hq sends of =
     let s = at-start (at-shared-slice-known4 (at-shared-slice-known8 c)) in
-    whole-set (s .args .rule) (s .pre .0 .0) (s .pre .1 .0) (s .pre .1 .1) (kept s) (s .args .g) q hq (and-split _ _ sends .0) (rw of at (all .covers q hq sends (hq .below)))
+    whole-set (s .args .rule) (s .pre .0 .0) (s .pre .1 .0) (s .pre .1 .1) (kept s) (s .args .g) q hq (and-split _ _ sends .0)
+    (rw of at (all .covers q hq sends (hq .below)))
     (sym (c .before .figures-pass .ensures) ∙ c .if2 .taken)
 
 returns-3 : tie.Need-returns-3

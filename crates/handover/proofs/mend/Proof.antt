@@ -23,14 +23,16 @@ check-table-requires c κs =
 mend-read-requires : tie.Need-mend-read-requires
 mend-read-requires c κs =
     let k = c .before .before .before .check-table in
-    (sym (c .before .before .before .before .before .before .before .read-array .ensures) ∙ c .before .before .before .before .before .t .given .1, passes (k .result) (k .ensures) (c .before .enum-told .given .1))
+    let t = c .before .before .before .before .before in
+    (sym (t .before .before .read-array .ensures) ∙ t .t .given .1, passes (k .result) (k .ensures) (c .before .enum-told .given .1))
 
 returns : tie.Need-returns
 returns c = mend-array-refused _ _ _ (c .before .r .given .0 .0) (sym (c .before .before .before .read-array .ensures) ∙ c .before .r .given .1)
 
 returns-2 : tie.Need-returns-2
 returns-2 c =
-    mend-table-refused _ _ _ (c .before .before .before .before .before .t .given .0 .0) (c .before .r2 .given .0 .0) (sym (c .before .before .before .before .before .before .before .read-array .ensures) ∙ c .before .before .before .before .before .t .given .1)
+    let t = c .before .before .before .before .before in
+    mend-table-refused _ _ _ (t .t .given .0 .0) (c .before .r2 .given .0 .0) (sym (t .before .before .read-array .ensures) ∙ t .t .given .1)
     (ap foundOf (sym (c .before .r2 .given .1)) ∙ c .before .before .before .check-table .ensures)
 
 returns-3 : tie.Need-returns-3

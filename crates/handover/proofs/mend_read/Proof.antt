@@ -45,7 +45,8 @@ returns-2 : tie.Need-returns-2
 returns-2 c =
     let s = at-start (at-if1 (c .before)) in
     let m = c .before .before .mend-table .ensures in
-    mend-passed _ _ _ (s .args .t) _ _ _ (s .pre .0) (s .pre .1) (c .before .before .before .before .read-sizes .ensures) (omega (arith, c .before .before .before .before .before .if1 .left))
+    mend-passed _ _ _ (s .args .t) _ _ _ (s .pre .0) (s .pre .1) (c .before .before .before .before .read-sizes .ensures)
+    (omega (arith, c .before .before .before .before .before .if1 .left))
     (λ i. omega (arith, c .before .before .before .before .before .before .before .shared-slice-known2 .given i)) (m .0) (m .1)
 
 pub mend-read-spec : {M : Type 1} → statement M

@@ -45,7 +45,9 @@ loop-again c =
     let b = c .before .before .before .before .before .before .byte-index .ensures in
     let a = rw (b .0, c .before .before .before .before .before .byte-index2 .ensures .0) at (c .before .before .before .before .add-row .ensures) in
     let x = at-start (at-sent (at-add-row-arg2 (c .before .before .before))) .args in
-    (search needs, matched-more (x .p .arity) (x .p .args) (x .q .args) _ _ (l .n) (l .inv .1) (at-add-row-arg2 (c .before .before .before) .before .before .loop-test .taken) a (l .inv .1 .0 .marks ∙ at-start (at-sent (at-add-row-arg2 (c .before .before .before))) .pre .1) (rw (b .0) at (b .1)))
+    let low = at-add-row-arg2 (c .before .before .before) .before .before .loop-test .taken in
+    let four = l .inv .1 .0 .marks ∙ at-start (at-sent (at-add-row-arg2 (c .before .before .before))) .pre .1 in
+    (search needs, matched-more (x .p .arity) (x .p .args) (x .q .args) _ _ (l .n) (l .inv .1) low a four (rw (b .0) at (b .1)))
 
 same-length : tie.Need-same-length Inv-loop μ-loop
 same-length c = c .before .loop .inv .1 .0 .size

@@ -35,9 +35,14 @@ same-length-3 c = ap length (c .before .before .mark-if .ensures) ∙ markIf-len
 
 returns-2 : tie.Need-returns-2
 returns-2 c =
+    let d = at-join (c .before .before) in
+    let b = at-word-at-arg4 d in
+    let a = at-word-at-arg2 b in
+    let off = sym (at-contained a .contained .ensures) ∙ a .before .before .before .if1 .left in
     rw (c .before .before .mark-if .ensures)
-    (added-row _ _ _ _ (sym (at-contained (at-word-at-arg2 (at-word-at-arg4 (at-join (c .before .before)))) .contained .ensures) ∙ at-word-at-arg2 (at-word-at-arg4 (at-join (c .before .before))) .before .before .before .if1 .left) _ _
-    (row-copied _ _ _ _ _ _ (at-word-at-arg2 (at-word-at-arg4 (at-join (c .before .before))) .before .word-at .ensures) (at-word-at-arg4 (at-join (c .before .before)) .before .before .before .word-at2 .ensures) (at-word-at-arg4 (at-join (c .before .before)) .before .word-at3 .ensures) (at-join (c .before .before) .before .before .before .word-at4 .ensures)) (c .before .before .before .before .before .before .join .ensures))
+    (added-row _ _ _ _ off _ _
+    (row-copied _ _ _ _ _ _ (a .before .word-at .ensures) (b .before .before .before .word-at2 .ensures) (b .before .word-at3 .ensures)
+    (d .before .before .before .word-at4 .ensures)) (d .join .ensures))
 
 pub add-row-spec : {M : Type 1} → statement M
 add-row-spec =

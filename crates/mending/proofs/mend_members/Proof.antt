@@ -107,9 +107,10 @@ mend-pair-requires c κs =
     let g = given (i n) in
     let h = hp (i n) in
     let r = s (i n) .pre .1 .0 .1 in
+    let d = differences-again (i n .before .loop .inv .2) (i n .before .loop .rows) in
     let k = i n .before .loop .inv .0 in (
-      (g .lists .manyRows, k .marks ∙ s (i n) .pre .0 .1, small-arity (g .read) h, rooms-there g h r (differences-again (i n .before .loop .inv .2) (i n .before .loop .rows)) _ (below (i n))),
-      ((agent-p g h r (hq n), name-row g h, name-row g (hq n)), λ l. figures-there g h r (differences-again (i n .before .loop .inv .2) (i n .before .loop .rows)) (hq n) l 3),
+      (g .lists .manyRows, k .marks ∙ s (i n) .pre .0 .1, small-arity (g .read) h, rooms-there g h r d _ (below (i n))),
+      ((agent-p g h r (hq n), name-row g h, name-row g (hq n)), λ l. figures-there g h r d (hq n) l 3),
     )
 
 -- what was done with the pair
@@ -125,7 +126,9 @@ module _ (c : tie.After-mend-pair Inv-loop μ-loop) where
       (c .mend-pair .ensures)
 
 mul-number-index-2 : tie.Need-mul-number-index-2 Inv-loop μ-loop
-mul-number-index-2 c = record { fits = omega (arith, below (i (n (c .before .before .before .before))), s (i (n (c .before .before .before .before))) .pre .0 .0 .read .formed .fewNodes) }
+mul-number-index-2 c =
+    let k = i (n (c .before .before .before .before)) in
+    record { fits = omega (arith, below k, s k .pre .0 .0 .read .formed .fewNodes) }
 
 shared-slice-read-number-index-2 : tie.Need-shared-slice-read-number-index-2 Inv-loop μ-loop
 shared-slice-read-number-index-2 c =
@@ -164,7 +167,8 @@ returns c =
     let l = c .before .loop in
     let x = begun (prepared (c .before)) .args in
     let e : l .next ≡ 0 = omega (arith, c .loop-test .left) in
-    (l .inv .0, links-done (setting (now (x .file)) (x .t) (x .balances) (l .rows) (now (x .loads)) (now (x .bounds))) (x .p) (x .g) (now (x .links)) (l .names) (rw e at (l .inv .1)))
+    let S = setting (now (x .file)) (x .t) (x .balances) (l .rows) (now (x .loads)) (now (x .bounds)) in
+    (l .inv .0, links-done S (x .p) (x .g) (now (x .links)) (l .names) (rw e at (l .inv .1)))
 
 pub mend-members-spec : {M : Type 1} → statement M
 mend-members-spec =

@@ -42,16 +42,21 @@ contained-requires c κs = (omega (arith, c .before .before .loop .inv .2), sear
 pass-requires : tie.Need-pass-requires Inv-loop μ-loop
 pass-requires c κs =
     let l = c .before .before .before .before .before .before .loop .inv in
-    (given-again (at-start (at-shared-slice-known3 (at-slice-known2 (c .before .before .before))) .pre) (l .0 .size ∙ at-slice-known2 (c .before .before .before) .before .before .first-pass .ensures .0 .size), (l .2, l .1))
+    let f = at-slice-known2 (c .before .before .before) in
+    (given-again (at-start (at-shared-slice-known3 f) .pre) (l .0 .size ∙ f .before .before .first-pass .ensures .0 .size), (l .2, l .1))
 
 loop-less : tie.Need-loop-less Inv-loop μ-loop
 loop-less c =
     let l = at-contained (c .before .before) .before .before .before .loop in
-    pass-weight (given-again (at-start (at-shared-slice-known3 (at-slice-known2 (at-contained (c .before .before)))) .pre) (l .inv .0 .size ∙ at-slice-known2 (at-contained (c .before .before)) .before .before .first-pass .ensures .0 .size)) (c .before .before .pass .ensures .0) (l .names)
+    let f = at-slice-known2 (at-contained (c .before .before)) in
+    pass-weight (given-again (at-start (at-shared-slice-known3 f) .pre) (l .inv .0 .size ∙ f .before .before .first-pass .ensures .0 .size))
+    (c .before .before .pass .ensures .0) (l .names)
     (sym (c .before .before .before .before .before .before .contained .ensures) ∙ not-true _ (c .before .before .before .before .before .if1 .taken))
 
 loop-again : tie.Need-loop-again Inv-loop μ-loop
-loop-again c = let p = c .before .before .pass .ensures in (between-more (at-contained (c .before .before) .before .before .before .loop .inv .0) (p .0), p .1, p .0 .marks)
+loop-again c =
+    let p = c .before .before .pass .ensures in
+    (between-more (at-contained (c .before .before) .before .before .before .loop .inv .0) (p .0), p .1, p .0 .marks)
 
 same-length : tie.Need-same-length Inv-loop μ-loop
 same-length c = c .before .before .before .before .loop .inv .0 .size ∙ c .before .before .before .before .before .before .before .first-pass .ensures .0 .size
@@ -59,7 +64,9 @@ same-length c = c .before .before .before .before .loop .inv .0 .size ∙ c .bef
 returns : tie.Need-returns Inv-loop μ-loop
 returns c =
     let l = c .before .before .before .before .loop in
-    finish (at-start (at-shared-slice-known3 (at-slice-known2 (c .before))) .pre) (between-after (c .before .before .before .before .before .before .before .first-pass .ensures .0) (l .inv .0)) (l .names) (l .inv .2) (l .inv .1) (sym (c .before .contained .ensures) ∙ not-false _ (c .if1 .left))
+    let f = at-slice-known2 (c .before) in
+    finish (at-start (at-shared-slice-known3 f) .pre) (between-after (f .before .before .first-pass .ensures .0) (l .inv .0)) (l .names) (l .inv .2)
+    (l .inv .1) (sym (c .before .contained .ensures) ∙ not-false _ (c .if1 .left))
 
 pub mend-rows-spec : {M : Type 1} → statement M
 mend-rows-spec =

@@ -39,21 +39,24 @@ own-marks-requires c κs =
     (omega (arith, g .read .fills), g .read .formed .fewNames, g .lists .manyRows)
 
 mend-rows-requires : tie.Need-mend-rows-requires
-mend-rows-requires c κs = given-again (at-rows2 (at-own-marks c) .before .fill-lists .ensures .given) (c .before .before .before .before .own-marks .ensures .size)
+mend-rows-requires c κs =
+    given-again (at-rows2 (at-own-marks c) .before .fill-lists .ensures .given) (c .before .before .before .before .own-marks .ensures .size)
 
 write-table-requires : tie.Need-write-table-requires
 write-table-requires c κs =
     let p = at-start (at-rows (at-rows2 (at-own-marks (at-bounds3 c)))) .pre in
     let l = p .1 .laid in
     let k = p .0 .formed in
-    ((c .before .before .before .mend-rows .ensures .size, omega (arith, l .nodes, k .fewNodes), omega (arith, l .names, k .fewNames), omega (arith, l .fills)), p .2)
+    let size = c .before .before .before .mend-rows .ensures .size in
+    ((size, omega (arith, l .nodes, k .fewNodes), omega (arith, l .names, k .fewNames), omega (arith, l .fills)), p .2)
 
 new-bits-requires : tie.Need-new-bits-requires
 new-bits-requires c κs =
     let p = at-start (at-rows (at-rows2 (at-own-marks (at-bounds3 (at-rows7 c))))) .pre in
     let l = p .1 .laid in
     let k = p .0 .formed in
-    (c .before .before .before .before .before .before .before .mend-rows .ensures .size, omega (arith, l .nodes, k .fewNodes), omega (arith, l .names, k .fewNames), omega (arith, l .fills))
+    let size = c .before .before .before .before .before .before .before .mend-rows .ensures .size in
+    (size, omega (arith, l .nodes, k .fewNodes), omega (arith, l .names, k .fewNames), omega (arith, l .fills))
 
 same-length : tie.Need-same-length
 same-length c = c .before .before .before .before .write-table .kept .0
@@ -63,9 +66,11 @@ returns c =
     let listed = at-rows2 (at-own-marks (at-bounds3 (at-rows7 (c .before)))) .before .fill-lists .ensures in
     let own = at-own-marks (at-bounds3 (at-rows7 (c .before))) .own-marks .ensures in
     let done = c .before .before .before .before .before .before .before .before .mend-rows .ensures in
-    let names = at-start (at-rows (at-rows2 (at-own-marks (at-bounds3 (at-rows7 (c .before)))))) .pre .1 .laid .names in (
+    let s = at-start (at-rows (at-rows2 (at-own-marks (at-bounds3 (at-rows7 (c .before)))))) in
+    let x = s .args in
+    let names = s .pre .1 .laid .names in (
       c .new-bits .ensures ∙ same-bits listed own done names,
-      c .before .before .before .before .write-table .ensures ∙ ap (λ l. put 0 l (now (at-start (at-rows (at-rows2 (at-own-marks (at-bounds3 (at-rows7 (c .before)))))) .args .output))) (same-file listed own done names),
+      c .before .before .before .before .write-table .ensures ∙ ap (λ l. put 0 l (now (x .output))) (same-file listed own done names),
     )
 
 pub mend-table-spec : {M : Type 1} → statement M

@@ -1,8 +1,10 @@
 -- The names passed have their own marks.
-use Prim.Native.Nat.{_≤_, _-_}
-use mathlib.Core.Path.{_≡_, _∙_}
+use Prim.Native.Nat.{ℕ, _≤_, _-_}
+use mathlib.Core.Path.{_≡_, _∙_, subst}
+use mathlib.Core.List.{List}
 use borrow.Author.Needs.{needs}
 use native.Mathlib.Omega.{arith}
+use Rattle.marks.specs.Marks.{Joined}
 use Rattle.records.specs.Record.{arrayOf}
 use Rattle.mending.specs.Growing.{OwnMarked}
 use Rattle.mending.proofs.Own.{own-none, own-more}
@@ -38,14 +40,23 @@ mark-if-requires : tie.Need-mark-if-requires Inv-loop μ-loop
 mark-if-requires c κs = omega (arith, c .before .before .before .if1 .taken, at-start (at-loop (c .before)) .pre .1)
 
 join-requires : tie.Need-join-requires Inv-loop μ-loop
-join-requires c κs = (omega (arith, c .before .before .before .before .before .before .before .if1 .taken, at-start (at-loop (at-news (c .before))) .pre .1, at-start (at-loop (at-news (c .before))) .pre .2, at-loop (at-news (c .before)) .loop .inv .1 .size), omega (arith, c .before .before .before .mark-if .kept .0))
+join-requires c κs =
+    let l = at-loop (at-news (c .before)) in
+    let p = at-start l .pre in
+    let below = c .before .before .before .before .before .before .before .if1 .taken in
+    (omega (arith, below, p .1, p .2, l .loop .inv .1 .size), omega (arith, c .before .before .before .mark-if .kept .0))
 
 loop-again : tie.Need-loop-again Inv-loop μ-loop
 loop-again c =
-    let l = at-loop (at-news (at-join-arg c)) .loop in
-    let j = rw (c .before .before .before .before .before .before .mark-if .ensures) at (c .before .before .join .ensures) in (
-      omega (arith, at-news (at-join-arg c) .before .before .if1 .taken),
-      own-more _ (l .o) _ (l .rows) _ _ (omega (arith, at-news (at-join-arg c) .before .before .if1 .taken, at-start (at-loop (at-news (at-join-arg c))) .pre .1)) (c .before .before .before .before .before .before .before .is-marked .ensures ∙ at-loop (at-news (at-join-arg c)) .before .opened .ensures (l .o)) (l .inv .1) j,
+    let n = at-news (at-join-arg c) in
+    let l = at-loop n .loop in
+    let below = n .before .before .if1 .taken in
+    let mark = c .before .before .before .before .before .before in
+    let new = mark .before .is-marked .ensures ∙ at-loop n .before .opened .ensures (l .o) in
+    let j = c .before .before .join in (
+      omega (arith, below),
+      own-more _ (l .o) _ (l .rows) (j .last .0) _ (omega (arith, below, at-start (at-loop n) .pre .1)) new (l .inv .1)
+          (subst (λ (row : List ℕ). Joined (l .rows) (j .last .0) (l .o) row 0) (mark .mark-if .ensures) (j .ensures)),
     )
 
 same-length : tie.Need-same-length Inv-loop μ-loop

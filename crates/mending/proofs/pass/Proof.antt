@@ -22,12 +22,13 @@ abbrev at-names2 : tie.After-sweep2 → tie.After-names2
 at-names2 c = c .before .before .before .before
 
 sweep-requires : tie.Need-sweep-requires
-sweep-requires c κs = (c .before .before .before .before .before .before .before .before .pre .0, refl, c .before .before .before .before .before .before .before .before .pre .1 .0, refl)
+sweep-requires c κs = let p = c .before .before .before .before .before .before .before .before .pre in (p .0, refl, p .1 .0, refl)
 
 sweep-requires-2 : tie.Need-sweep-requires-2
 sweep-requires-2 c κs =
     let w = c .before .before .before .before .before .before .sweep .ensures .0 in
-    (given-again (at-start (at-shared-slice-known3 (at-names (c .before .before .before))) .pre .0) (w .size), w .marks, refl, at-start (at-shared-slice-known3 (at-names (c .before .before .before))) .pre .1 .0)
+    let p = at-start (at-shared-slice-known3 (at-names (c .before .before .before))) .pre in
+    (given-again (p .0) (w .size), w .marks, refl, p .1 .0)
 
 same-length : tie.Need-same-length
 same-length c = c .before .before .before .sweep2 .ensures .0 .size ∙ at-names2 (c .before .before .before) .before .before .before .sweep .ensures .0 .size

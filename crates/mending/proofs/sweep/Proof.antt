@@ -56,9 +56,10 @@ mend-node-requires : tie.Need-mend-node-requires Inv-loop μ-loop
 mend-node-requires c κs =
     let s = at-start (at-slice-known2 (at-needs (at-gather-arg (at-arities2 (at-if1 (c .before .before)))))) in
     let p = s .pre in
+    let k = at-arities2 (at-if1 (c .before .before)) .before .before .before .gather in
     let a = c .before .before .before .before .before .before .before .before .loop .inv .1 in (
       (given-again (p .0) (a .size), a .marks ∙ p .1, p .2, omega (arith, c .before .before .before .before .before .before .if1 .taken)),
-      (now (s .args .chosen), stale-grew (stale-now (p .0) (at-arities2 (at-if1 (c .before .before)) .before .before .before .gather .ensures (now (s .args .bounds)))) a),
+      (now (s .args .chosen), stale-grew (stale-now (p .0) (k .ensures (now (s .args .bounds)))) a),
     )
 
 loop-again : tie.Need-loop-again Inv-loop μ-loop
@@ -68,11 +69,12 @@ loop-again c =
     let x = s .args in
     let l = at-if1 (at-unions3 (c .before .before .before)) .before .before .loop in
     let a = l .inv .1 in
+    let k = at-arities2 (at-if1 (at-unions3 (c .before .before .before))) .before .before .before .gather in
     let m = c .before .before .before .before .mend-node .ensures in (
       omega (arith, at-if1 (at-unions3 (c .before .before .before)) .if1 .taken),
       grew-trans a (m .0),
       swept-more (given-again (p .0) (a .size)) (l .names) (now (x .chosen)) (now (x .reach)) (l .i) (l .inv .2) (m .0)
-          (m .1 (now (x .chosen)) (stale-grew (stale-now (p .0) (at-arities2 (at-if1 (at-unions3 (c .before .before .before))) .before .before .before .gather .ensures (now (x .bounds)))) a)),
+          (m .1 (now (x .chosen)) (stale-grew (stale-now (p .0) (k .ensures (now (x .bounds)))) a)),
     )
 
 same-length : tie.Need-same-length Inv-loop μ-loop
