@@ -13,11 +13,11 @@ use Rattle.records.specs.declared.Record.{Record}
 use Rattle.records.specs.Record.{nodeOf, recordOf}
 use Rattle.records.specs.Kinds.{isReceiver}
 use Rattle.pairs.specs.declared.Side.{Side}
-use Rattle.pairs.specs.Pairs.{Setting, Given, Held, DifferencesOf, breaksPair}
+use Rattle.pairs.specs.Pairs.{Setting, Given, Held, DifferencesOf}
 use Rattle.pairs.proofs.Search.{sideAt}
 use Rattle.senders.specs.Sets.{Member, Linked}
-use Rattle.mending.specs.Growing.{Grew, PairAnswer, RuleThree, Noted}
-use Rattle.mending.proofs.Noting.{regrown, noted-grew, pair-grew, pair-noted}
+use Rattle.mending.specs.Growing.{Grew, RuleThree, Noted}
+use Rattle.mending.proofs.Noting.{regrown, noted-grew}
 
 pub differences-again : {S : Setting} {p : Side} {gives rooms : List ℕ} → DifferencesOf S p gives rooms → (rows : List ℕ)
     → DifferencesOf (regrown S rows) p gives rooms

@@ -1,15 +1,15 @@
 -- Rows that grow: in no step, in two steps, by one row, and what a pair keeps while they do.
 use Prim.Native.Nat.{ℕ, zero, suc, _+_, _/_, _%_, _<_}
 use native.Mathlib.Omega.{arith}
-use mathlib.Core.Path.{_≡_, refl, sym, ap, ap₂, _∙_, subst}
+use mathlib.Core.Path.{_≡_, refl, sym, ap, _∙_, subst}
 use mathlib.Core.Logic.{_⊎_, inl, inr}
-use mathlib.Core.Bool.{Bool, true, false, not, _&&_, _||_, true≢false, false≢true}
+use mathlib.Core.Bool.{Bool, true, false, not, _&&_, _||_, true≢false}
 use mathlib.Core.List.{List, [], _∷_}
 use lib.Dec.{eqb}
 use lib.ListN.{length, getD}
 use borrow.Author.Count.{below-more}
 use borrow.Author.Tests.{eqb-true, eq-eqb, not-true, not-false}
-use Rattle.laws.proofs.Search.{decided, and-split, and-join, or-split, or-left, or-right, or-false, false-every, every-false}
+use Rattle.laws.proofs.Search.{decided, and-split, and-join, or-split, or-left, or-right, or-false, every-false}
 use Rattle.laws.specs.Bits.{bit}
 use Rattle.marks.specs.Marks.{wordAt, marked, markIf, inside, Joined}
 use Rattle.marks.proofs.Laws.{marked-more, markIf-length, inside-marked, marked-inside}

@@ -1,26 +1,22 @@
 -- Pairs while rows grow: what breaks rule 3 uses a noted name, before and after.
 use Prim.Native.Nat.{ℕ, _<_}
-use native.Mathlib.Omega.{arith}
 use mathlib.Core.Path.{_≡_, refl, sym, ap, ap₂, _∙_, subst}
-use mathlib.Core.Logic.{_⊎_, inl, inr}
+use mathlib.Core.Logic.{inl, inr}
 use mathlib.Core.Bool.{Bool, true, false, not, _&&_, _||_, true≢false}
 use mathlib.Core.List.{List}
-use mathlib.Core.Option.{some}
 use lib.Dec.{eqb}
 use lib.ListN.{length, getD}
-use borrow.Author.Tests.{eqb-true, not-true, not-false}
+use borrow.Author.Tests.{not-true}
 use Rattle.laws.specs.Search.{every}
-use Rattle.laws.proofs.Search.{decided, and-split, and-join, or-split, or-right, or-left, or-false, every-true, true-every, every-false, any-same, true-any}
+use Rattle.laws.proofs.Search.{decided, and-split, and-join, or-split, or-right, or-left, or-false, every-true, every-false, any-same, true-any}
 use Rattle.laws.proofs.Search.{any-false, any-true}
-use Rattle.marks.specs.Marks.{marked, share, inside}
+use Rattle.marks.specs.Marks.{marked, share}
 use Rattle.marks.proofs.Laws.{inside-marked, marked-inside}
-use Rattle.model.specs.Tree.{Array, Agent, agentAt, isAgent}
 use Rattle.model.specs.Memory.{isOut}
-use Rattle.model.specs.Rules.{Table, Live, Rule3, within}
+use Rattle.model.specs.Rules.{Live, within}
 use Rattle.model.specs.Mend.{Rows, withRows}
 use Rattle.model.proofs.Verdict.{live-Live, live-more}
 use Rattle.records.specs.declared.Record.{Record}
-use Rattle.records.specs.declared.Trailer.{Trailer}
 use Rattle.records.specs.Record.{nodeOf, argsOf}
 use Rattle.records.specs.Kinds.{isReceiver}
 use Rattle.records.proofs.KindLaws.{sender-is}
@@ -28,7 +24,7 @@ use Rattle.arrays.specs.Agents.{agentIn}
 use Rattle.arrays.proofs.Agents.{agent-is, arity-is}
 use Rattle.pairs.specs.declared.Side.{Side}
 use Rattle.pairs.specs.Pairs.{Setting, setting, Given, Held, arrayIn, tableIn, bearsBoth, argumentHolds, allHold, breaksPair}
-use Rattle.pairs.proofs.Laws.{near, alive, live-near, meet-sends, live-is, agent-p, arities, arg-is}
+use Rattle.pairs.proofs.Laws.{alive, live-near, meet-sends, live-is, agent-p, arities, arg-is}
 use Rattle.senders.specs.Sets.{sendsMarked}
 use Rattle.mending.specs.Growing.{Below, Grew, Matched, PairAnswer, RuleThree, touches, Noted}
 use Rattle.mending.proofs.Growth.{grew-same, grew-by, unnoted}

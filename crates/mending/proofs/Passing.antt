@@ -2,23 +2,22 @@
 use Prim.Native.Nat.{ℕ, _+_, _≤_, _<_}
 use native.Mathlib.Omega.{arith}
 use mathlib.Core.Path.{_≡_, refl, sym, ap, _∙_, subst}
-use mathlib.Core.Logic.{_⊎_, inl, inr}
-use mathlib.Core.Bool.{Bool, true, false, not, _&&_, _||_, true≢false}
+use mathlib.Core.Logic.{inl, inr}
+use mathlib.Core.Bool.{Bool, true, false, not, _||_, true≢false}
 use mathlib.Core.List.{List}
 use mathlib.Core.Option.{none, some}
 use lib.Dec.{ltb}
 use lib.ListN.{length, getD, replicate}
 use borrow.Author.Tests.{ltb-true, ltb-false, lt-ltb, not-false}
-use Rattle.laws.specs.Search.{sum, every}
 use Rattle.laws.specs.Lists.{one}
-use Rattle.laws.proofs.Search.{decided, and-split, and-join, or-split, or-left, or-right, or-false, every-true, every-false, any-true, sum-mono}
+use Rattle.laws.proofs.Search.{decided, and-join, or-split, or-left, or-right, or-false, every-true, every-false, any-true, sum-mono}
 use Rattle.laws.proofs.Lists.{one-le}
 use Rattle.marks.specs.Marks.{marked, inside}
 use Rattle.marks.proofs.Laws.{marked-none, marked-past, inside-marked}
 use Rattle.model.specs.Tree.{Array, Agent, agentAt, isAgent}
 use Rattle.model.specs.Memory.{isOut}
 use Rattle.model.specs.Rules.{rowBits, Rule3, Rule3At, Live}
-use Rattle.model.specs.Mend.{Rows, Contained, withRows}
+use Rattle.model.specs.Mend.{Rows, Contained}
 use Rattle.model.proofs.Verdict.{Live-live, decides3}
 use Rattle.model.proofs.Alike.{known}
 use Rattle.model.proofs.Mend.{unset, unset-less}
@@ -29,9 +28,8 @@ use Rattle.arrays.specs.Agents.{agentIn}
 use Rattle.arrays.proofs.Agents.{agent-is, no-agent, arity-is}
 use Rattle.pairs.specs.declared.Side.{Side}
 use Rattle.pairs.specs.Pairs.{Setting, Given, Held, arrayIn, tableIn, argumentHolds, allHold, breaksPair}
-use Rattle.pairs.proofs.Laws.{near, alive, live-near, meet-sends, live-is, agent-p, name-row, argument-is}
-use Rattle.pairs.proofs.Search.{sideAt}
-use Rattle.senders.specs.Sets.{everyName, sendsBy, sendsMarked}
+use Rattle.pairs.proofs.Laws.{alive, live-near, meet-sends, live-is, agent-p, name-row, argument-is}
+use Rattle.senders.specs.Sets.{everyName, sendsMarked}
 use Rattle.senders.proofs.Laws.{marked-any, sends-any}
 use Rattle.mending.specs.Growing.{Below, Grew, RuleThree, touches, Noted, Swept, Clean, Finished}
 use Rattle.mending.proofs.Noting.{regrown, given-again, broken-live, noted-grew}

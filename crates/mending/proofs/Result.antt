@@ -3,10 +3,9 @@ use Prim.Native.Nat.{ℕ, _<_}
 use native.Mathlib.Omega.{arith}
 use mathlib.Core.Path.{_≡_, refl, sym, ap, _∙_, subst}
 use mathlib.Core.Logic.{inl, inr}
-use mathlib.Core.Bool.{Bool, true, false, not, _&&_, _||_, true≢false, false≢true}
+use mathlib.Core.Bool.{true, false, not, _&&_, _||_, true≢false}
 use mathlib.Core.List.{List}
 use lib.Dec.{eqb, ltb}
-use lib.ListN.{length}
 use borrow.Author.Tests.{eqb-true, eq-eqb, ltb-true, lt-ltb, not-true}
 use Rattle.laws.specs.Search.{sum}
 use Rattle.laws.specs.Lists.{one}
@@ -14,7 +13,7 @@ use Rattle.laws.proofs.Search.{decided, and-split, and-join, or-split, or-left,
 use Rattle.marks.specs.Marks.{marked}
 use Rattle.model.specs.Tree.{Array, isNew}
 use Rattle.model.specs.Formed.{WellFormed}
-use Rattle.model.specs.Rules.{Table, Each, rowBits}
+use Rattle.model.specs.Rules.{Table}
 use Rattle.model.specs.Mend.{Rows, withRows, Mends, Smallest, mended, bitsSet}
 use Rattle.model.proofs.Verdict.{live-more}
 use Rattle.model.proofs.Alike.{known}

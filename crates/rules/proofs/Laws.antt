@@ -1,40 +1,32 @@
 -- The rules by the checker's own lists are the model's, and over lists that stand for the table of two files they are the rules of that table.
 use Prim.Native.Nat.{ℕ, _+_, _<_}
-use native.Mathlib.Nat.{le-of-suc-le-suc}
 use native.Mathlib.Numerals.{add-one}
 use native.Mathlib.Omega.{arith}
-use mathlib.Core.Path.{_≡_, refl, sym, ap, _∙_, subst}
+use mathlib.Core.Path.{_≡_, refl, sym, ap, _∙_}
 use mathlib.Core.Bool.{Bool, true, false, false≢true, true≢false}
 use mathlib.Core.List.{List, [], _∷_}
 use lib.Dec.{leb}
-use lib.ListN.{length, getD}
+use lib.ListN.{getD}
 use borrow.Author.Tests.{ltb-true, lt-ltb}
 use Rattle.laws.specs.Search.{clear, hit, test, andThen}
 use Rattle.laws.proofs.Search.{implies, implied, same-test, clear-test, hit-test, first-pass, first-here, first-same, every-true, true-every}
 use Rattle.laws.proofs.Search.{clear-andThen, hit-andThen}
-use Rattle.wire.specs.Numbers.{u32At}
 use Rattle.wire.proofs.Laws.{u16-small}
-use Rattle.marks.specs.Marks.{marked}
-use Rattle.model.specs.Tree.{Array, Node, nodeAt, isAgent}
-use Rattle.model.specs.Nodes.{loadOf}
+use Rattle.model.specs.Tree.{Array}
 use Rattle.model.specs.Formed.{WellFormed}
 use Rattle.model.specs.Same.{Alike}
 use Rattle.model.specs.Rules.{Table, together, Named, SetsAgree, Broken, Verdict, at, check1, check2, arguments3, check3, balances4, check4, check5, verdict}
 use Rattle.model.proofs.Tree.{agent-inside}
-use Rattle.model.proofs.Nodes.{load-at}
 use Rattle.model.proofs.Sets.{met-each, each-met}
-use Rattle.model.proofs.Alike.{load-alike, check3-alike, check4-alike, verdict-alike}
+use Rattle.model.proofs.Alike.{check3-alike, check4-alike, verdict-alike}
 use Rattle.records.specs.declared.Trailer.{Trailer}
 use Rattle.records.specs.Record.{arrayOf}
-use Rattle.arrays.specs.File.{IsRead}
 use Rattle.layout.specs.declared.Sizes.{Sizes}
-use Rattle.layout.specs.Table.{balanceAt, rowBit, tableOf, IsTable}
+use Rattle.layout.specs.Table.{tableOf, IsTable}
 use Rattle.layout.proofs.Laws.{claims-lie}
 use Rattle.claims.proofs.Laws.{claims-named, sets-agree, claims-rise}
-use Rattle.loads.specs.Loads.{loadIn, AllLoads}
-use Rattle.loads.proofs.Laws.{small-load, half-load}
 use Rattle.pairs.specs.declared.Place.the-variants.{At}
-use Rattle.pairs.specs.Pairs.{listTable, Weighed, atPair, pairsOf, placed}
+use Rattle.pairs.specs.Pairs.{listTable, atPair, pairsOf, placed}
 use Rattle.lists.specs.Listed.{Listed}
 use Rattle.rules.specs.declared.Ruling.{Ruling}
 use Rattle.rules.specs.declared.Ruling.the-variants.{Held, Rule1, Rule2, Rule3, Rule4, Rule5}

@@ -3,13 +3,12 @@
 // and loads (the checker's own lists), claims (a set's first), layout, frees (the names that news open), arrays, records, marks, wire, model and laws.
 // The lists take 106,592 bytes of stack.
 ghost use mathlib.Core.Path.{_≡_};
-ghost use Prim.Native.Nat.{ℕ, _+_, _<_, _≤_};
-ghost use lib.ListN.{length, getD};
+ghost use Prim.Native.Nat.{_+_, _<_, _≤_};
+ghost use lib.ListN.{length};
 ghost use Rattle.model.specs.Rules as M;
 ghost use Rattle.records.specs.Record.{arrayOf, RecordsFit};
 ghost use Rattle.arrays.specs.File.{IsRead};
-ghost use Rattle.wire.specs.Numbers.{u32At};
-ghost use Rattle.layout.specs.Table.{balanceAt, claimAt, tableOf, IsTable};
+ghost use Rattle.layout.specs.Table.{tableOf, IsTable};
 ghost use Rattle.pairs.specs.Pairs.{listTable, setting, Given, HalfRow};
 ghost use Rattle.rules.specs.Ruling.{ruled, isHeld, from3, ruleBelow, ownMarked, rootFits, claimHolds, setHolds, ClaimListed, ClaimsListed};
 ghost use Rattle.rules.specs.Ruling.{AllListed, claimed};

@@ -2,8 +2,7 @@
 use denote.Ref.{now}
 use Prim.Native.Nat.{ℕ, _+_, _-_, _≤_, _<_}
 use lib.ListN.{getD}
-use mathlib.Core.Path.{_≡_, refl, sym, _∙_, subst}
-use mathlib.Core.Bool.{Bool}
+use mathlib.Core.Path.{_≡_, refl, _∙_}
 use borrow.Author.Needs.{needs}
 use native.Mathlib.Omega.{arith}
 use Rattle.arrays.proofs.Agents.{left-below, small-arity}
@@ -11,7 +10,7 @@ use Rattle.pairs.specs.declared.Side.{Side}
 use Rattle.pairs.specs.Pairs.{Setting, Given, Held, setting, DifferencesOf, breaksPair}
 use Rattle.pairs.proofs.Laws.{agent-p, name-row}
 use Rattle.pairs.proofs.ByDifference.{rooms-there, figures-there, breaks-by}
-use Rattle.mending.specs.Growing.{Grew, PairAnswer, RuleThree, Noted}
+use Rattle.mending.specs.Growing.{Grew, PairAnswer, RuleThree}
 use Rattle.mending.proofs.Growth.{grew-same, grew-trans}
 use Rattle.mending.proofs.Noting.{regrown, given-again, pair-grew, pair-noted, answer-by}
 use Rattle.mending.proofs.Along.{differences-again, noted-at, AtLink, links-begun, link-node, link-down, links-more, links-done}

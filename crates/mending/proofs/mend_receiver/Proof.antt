@@ -1,6 +1,5 @@
 -- The sets passed so far were looked at, whichever sets the lists stand for.
 use Prim.Native.Nat.{ℕ, _≤_, _<_, _-_}
-use denote.Ref.{now}
 use mathlib.Core.Path.{_≡_, refl, _∙_}
 use mathlib.Core.List.{List}
 use borrow.Author.Needs.{needs}

@@ -1,11 +1,9 @@
 -- The lists stand for the table; with the own marks, and what rule 3 asks for, they are the mended rows.
 use denote.Ref.{now}
 use mathlib.Core.Path.{refl, ap, _∙_}
-use lib.ListN.{length}
 use borrow.Author.Needs.{needs}
 use native.Mathlib.Omega.{arith}
 use Rattle.laws.specs.Lists.{put}
-use Rattle.layout.proofs.Laws.{claims-lie}
 use Rattle.mending.proofs.Noting.{given-again}
 use Rattle.mending.proofs.Result.{same-file, same-bits}
 use Rattle.mending.proofs.mend_table.Statement.{statement}

@@ -1,7 +1,7 @@
 -- The nodes passed so far were looked at beside the senders that were gathered at the start.
 use Prim.Native.Nat.{_≤_, _-_}
 use denote.Ref.{now}
-use mathlib.Core.Path.{_≡_, refl, _∙_}
+use mathlib.Core.Path.{_∙_}
 use borrow.Author.Needs.{needs}
 use native.Mathlib.Omega.{arith}
 use Rattle.pairs.specs.Pairs.{setting}
