@@ -6,12 +6,12 @@ PYTHON = python3
 INSTALL = install
 
 dest = $(DESTDIR)$(PREFIX)
-programs = judge walk
+programs = judge mend walk
 archive = target/staticlib/libhandover_c.a
 # pkg-config takes a backslash before a blank for a part of the path; the other backslashes are for sed.
 written_prefix = $(shell printf '%s' '$(PREFIX)' | sed 's/[&|\\]/\\&/g; s/ /\\\\ /g')
 installed = $(programs:%=bin/%) lib/libhandover_c.a lib/pkgconfig/handover.pc include/handover.h \
-	share/man/man1/judge.1 share/man/man1/walk.1 share/man/man3/handover.3
+	$(programs:%=share/man/man1/%.1) share/man/man3/handover.3
 
 .PHONY: all check built install uninstall examples clean
 
@@ -33,7 +33,7 @@ install: built
 	$(INSTALL) -m 755 $(programs:%=target/bin/%) "$(dest)/bin"
 	$(INSTALL) -m 644 $(archive) "$(dest)/lib"
 	$(INSTALL) -m 644 include/handover.h "$(dest)/include"
-	$(INSTALL) -m 644 man/judge.1 man/walk.1 "$(dest)/share/man/man1"
+	$(INSTALL) -m 644 $(programs:%=man/%.1) "$(dest)/share/man/man1"
 	$(INSTALL) -m 644 man/handover.3 "$(dest)/share/man/man3"
 	sed 's|@prefix@|$(written_prefix)|' handover.pc.in > "$(dest)/lib/pkgconfig/handover.pc"
 	chmod 644 "$(dest)/lib/pkgconfig/handover.pc"

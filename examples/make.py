@@ -1,5 +1,6 @@
 #!/usr/bin/env python3
-"""Writes array.pis, table.pic and labels.txt of every example from its design.txt. Needs nothing but Python 3.
+"""Writes array.pis, table.pic and labels.txt of every example from its design.txt, and mended.pic of one that is to be mended. Needs nothing but
+Python 3.
 
 A design has the scope paper's notation, a line for each thing, with a word for each name; what stands after | is said in the picture:
 
@@ -7,6 +8,7 @@ A design has the scope paper's notation, a line for each thing, with a word for 
     names     0 hand | handover channel
     nodes     3 out hand [moored] to 4 | hands out the moored clock       (also: new, par 3, 5, choice 3, 5, in, resource, stop)
     rows      tfix {towed}
+    mended    tfix {moored, towed}                                        (a row that mend makes larger, as it is in mended.pic)
     balances  bound 1, w5 = w6 = 1, w7 = 2 | the receiver
     claims    6 most 1 in 0                                               (of a set: 6 most 1 in 0 set 3)
 """
@@ -31,7 +33,7 @@ def sections(path):
             text, _, words = (piece.strip() for piece in line.partition("|"))
             if text.startswith("remark "):
                 remark = text[7:]
-            elif text in ("names", "nodes", "rows", "balances", "claims"):
+            elif text in ("names", "nodes", "rows", "mended", "balances", "claims"):
                 now = parts[text] = []
             elif text and not text.startswith("#"):
                 now.append((text, words))
@@ -73,9 +75,10 @@ def claims_of(texts):
     return [claim(*numbers) for numbers in sorted(found, key=lambda x: (x[3], *x[:3]))]
 
 
-def table_of(array, parts, number):
+def table_of(array, parts, number, grown=()):
+    """With the rows that have grown in place of the first ones."""
     rows = [b""] * len(number)
-    for text, _ in parts["rows"]:
+    for text, _ in [*parts["rows"], *grown]:
         name, openings = re.fullmatch(r"(\w+) \{(.*)\}", text).groups()
         rows[number[name]] = row(*(number[word] for word in words_in(openings)))
     assert all(rows), "a name without a row"
@@ -98,7 +101,10 @@ def main():
         remark, parts = sections(os.path.join(path, "design.txt"))
         number = {text.split()[1]: int(text.split()[0]) for text, _ in parts["names"]}
         array = array_of(remark, parts, number)
-        for name, content in (("array.pis", array), ("table.pic", table_of(array, parts, number)), ("labels.txt", labels_of(parts).encode())):
+        files = {"array.pis": array, "table.pic": table_of(array, parts, number), "labels.txt": labels_of(parts).encode()}
+        if "mended" in parts:
+            files["mended.pic"] = table_of(array, parts, number, parts["mended"])
+        for name, content in files.items():
             with open(os.path.join(path, name), "wb") as out:
                 out.write(content)
 

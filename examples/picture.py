@@ -2,8 +2,9 @@
 """Draws an example: picture.py FOLDER .. writes FOLDER/picture.svg from array.pis and table.pic, which judge must not refuse.
 
 On the left the tree, a row for each node: a continuation stands below its node, the children of par and choice stand below it, indented.
-On the right what the table says. If there is a file `verdict` with a broken rule, its place is marked; if there is a file
-labels.txt (`name NUMBER WORD ..`, `node NUMBER WORDS`, `balance NUMBER WORDS`), its words are shown. Needs nothing but Python 3.
+On the right what the table says. If there is a file `verdict` with a broken rule, its place is marked; if there is a table mended.pic, what
+mend adds to a row stands after a +; if there is a file labels.txt (`name NUMBER WORD ..`, `node NUMBER WORDS`, `balance NUMBER WORDS`), its
+words are shown. Needs nothing but Python 3.
 """
 import os
 import struct
@@ -70,6 +71,8 @@ class Picture:
     def __init__(self, folder):
         self.nodes, n = read_array(read(folder, "array.pis"))
         self.rows, self.balances, self.claims = read_table(read(folder, "table.pic"), len(self.nodes), n)
+        mended = read(folder, "mended.pic")
+        self.mended = read_table(mended, len(self.nodes), n)[0] if mended else self.rows
         self.labels = read_labels(read(folder, "labels.txt").decode())
         self.verdict = read(folder, "verdict").decode().strip()
         self.title = os.path.basename(os.path.abspath(folder))
@@ -121,12 +124,13 @@ class Picture:
 
     def table_lines(self):
         """What stands on the right: (words, style, whether it is marked)."""
-        yield "flows: what each name may hold", "head", False
+        yield "flows: what each name may hold" + ", + what mend adds" * (self.mended != self.rows), "head", False
         bad = self.nodes[self.pair[0]][3][self.place[2] - 1] if self.rule == 3 else self.place[0] if self.rule == 1 else None
         words = self.labels["name"]
         wide = max(map(len, words.values()), default=-1) + 1
         for v, row in enumerate(self.rows):
-            yield f"{v:>3} {words.get(v, ''):{wide}}{{{self.names(sorted(row))}}}", "code", v == bad
+            more = self.names(sorted(self.mended[v] - row))
+            yield f"{v:>3} {words.get(v, ''):{wide}}{{{self.names(sorted(row))}}}" + f" + {{{more}}}" * bool(more), "code", v == bad
         worst = self.place[-1] if self.rule in (2, 4) else None
         for k, (bound, weights) in enumerate(self.balances):
             yield f"balance {k}, bound {bound}", "head", k == worst

@@ -1,6 +1,6 @@
 #!/usr/bin/env python3
-"""Writes crates/cases/{data,args,stdout}, crates/judge/{data,stdout} and crates/sizes/{data,args,stdout}: pairs of array and table files, what
-the checker must say of them, and what the table reader must.
+"""Writes crates/cases/{data,args,stdout}, crates/sizes/{data,args,stdout}, crates/judge/{data,stdout} and crates/mend/{data,stdout}: pairs of array
+and table files, what the checker must say of them, what the table reader must, and what mend must.
 
 Each answer is written here by hand from documents 01 and 02: a case is an array, a table's name, the table and the words of the verdict, or of the
 reader's answer. Run it at the top of the repository after a change; the gate compares what the programs print.
@@ -336,6 +336,7 @@ def main():
     write_pairs("cases", CASES)
     write_pairs("sizes", SIZES)
     write(os.path.join("crates", "judge"), {"array.pis": a, "table.pic": table}, None, ["held 8 3 1 1"])
+    write(os.path.join("crates", "mend"), {"array.pis": a, "table.pic": pic(a, [row(0), row(), row()], [bal], [claim(6, 1)])}, None, ["mended 2"])
     print(len(CASES), "cases,", len(SIZES), "readings")
 
 

@@ -14,11 +14,10 @@ use Rattle.laws.proofs.Search.{implies, test-clear, clear-test, hit-test, andTh
 use Rattle.laws.proofs.Put.{take-put}
 use Rattle.model.specs.Tree.{Array, isNew}
 use Rattle.model.specs.Formed.{WellFormed}
-use Rattle.model.specs.Rules.{Table, rowBits, Each}
+use Rattle.model.specs.Rules.{rowBits, Each}
 use Rattle.model.specs.Mend.{Rows, withRows, Mends, Smallest, mended, bitsSet}
-use Rattle.model.proofs.Alike.{known}
-use Rattle.model.proofs.Mend.{SameRows, contained-both, bits-none, none-bits, bits-same, pair-least, mended-smallest, smallest-alike, held-smallest}
-use Rattle.model.proofs.Mend.{smallest-opened, rules-left}
+use Rattle.model.proofs.Mend.{SameRows, contained-both, bits-none, none-bits, bits-same, mended-smallest, smallest-alike, held-smallest}
+use Rattle.model.proofs.Mend.{smallest-opened, mends-rows, smallest-rows, rules-left}
 use Rattle.records.specs.declared.Refusal.{Refusal}
 use Rattle.records.specs.declared.Trailer.{Trailer}
 use Rattle.records.specs.Record.{arrayOf}
@@ -37,21 +36,6 @@ use Rattle.handover.specs.Refusals.{done, MendNumber}
 use Rattle.handover.specs.Mending.{refusal32, mendRefusal, mendedRows, mendedTable, mendReply, mendOutput, MendedTable, MendPromise}
 use Rattle.handover.proofs.Refusals.{read-array, files-small}
 use Rattle.handover.proofs.Laws.{held-exactly}
-
--- ---- rows that say the same are the smallest too
-
-module _ (a : Array) (ok : WellFormed a) (t : Table) (r s : Rows) (same : SameRows a r s) where
-  mends-rows : Mends a t r → Mends a t s
-  mends-rows m = record {
-    contains = λ v h o l e. sym (same v h o l) ∙ m .contains v h o l e;
-    rule1 = λ o h n. let few = ok .fewNames in sym (same o h o (omega arith)) ∙ m .rule1 o h n;
-    rule3 = λ i hi j hj p q ep eq l n hn o ho e.
-        sym (same _ (known a ok i p ep .args n) o ho)
-        ∙ pair-least a ok t s r m (λ v h o l e. same v h o l ∙ e) i j p q ep eq l n hn o ho e;
-  }
-
-  smallest-rows : Smallest a t r → Smallest a t s
-  smallest-rows x = record { mends = mends-rows (x .mends); least = λ y m v h o l e. x .least y m v h o l (same v h o l ∙ e) }
 
 -- ---- the mended table
 

@@ -40,6 +40,19 @@ pub fn print_refusal(r: Refusal) {
     print_figure(r.place);
 }
 
+// A refusal's line.
+pub fn print_refused(r: Refusal) {
+    print_refusal(r);
+    io::write_all(STDOUT_FILENO, b"\n");
+}
+
+// `mended` and the number of bits set.
+pub fn print_mended(bits: usize) {
+    io::write_all(STDOUT_FILENO, b"mended");
+    print_figure(bits);
+    io::write_all(STDOUT_FILENO, b"\n");
+}
+
 // 01's word for an ending.
 pub fn print_ending(ending: Ending) {
     match ending {

@@ -294,6 +294,21 @@ mends-alike a ok t u e r m =
       rule3 = rule3-alike a ok (withRows t r) (withRows u r) k (m .rule3);
     }
 
+-- ---- rows that say the same are the smallest too
+
+module _ (a : Array) (ok : WellFormed a) (t : Table) (r s : Rows) (same : SameRows a r s) where
+  pub mends-rows : Mends a t r → Mends a t s
+  mends-rows m = record {
+    contains = λ v h o l e. sym (same v h o l) ∙ m .contains v h o l e;
+    rule1 = λ o h n. let few = ok .fewNames in sym (same o h o (omega arith)) ∙ m .rule1 o h n;
+    rule3 = λ i hi j hj p q ep eq l n hn o ho e.
+        sym (same _ (known a ok i p ep .args n) o ho)
+        ∙ pair-least a ok t s r m (λ v h o l e. same v h o l ∙ e) i j p q ep eq l n hn o ho e;
+  }
+
+  pub smallest-rows : Smallest a t r → Smallest a t s
+  smallest-rows x = record { mends = mends-rows (x .mends); least = λ y m v h o l e. x .least y m v h o l (same v h o l ∙ e) }
+
 pub smallest-alike : (a : Array) → WellFormed a → (t u : Table) → Alike a t u → (r : Rows) → Smallest a t r → Smallest a u r
 smallest-alike a ok t u e r s = record {
   mends = mends-alike a ok t u e r (s .mends);

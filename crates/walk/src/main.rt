@@ -11,12 +11,6 @@ use lent::Counts;
 use libc::STDIN_FILENO;
 use libc::STDOUT_FILENO;
 use model::Ending;
-use records::Refusal;
-
-fn print_refused(r: Refusal) {
-    lines::print_refusal(r);
-    io::write_all(STDOUT_FILENO, b"\n");
-}
 
 fn print_turn(t: Turn) {
     io::print_decimal(STDOUT_FILENO, t.receiver as u64);
@@ -43,7 +37,7 @@ fn print_walk(array: &[u8], choices: &[u8], threads: &mut [u32], count: usize) {
         let stride = handover::stride(array, choices, threads, &mut markers, counts, allowance);
         match stride {
             StrideAnswer::Ended(ending, steps) => return print_end(ending, steps),
-            StrideAnswer::Refused(r) => return print_refused(r),
+            StrideAnswer::Refused(r) => return lines::print_refused(r),
             StrideAnswer::Made(t) => {
                 print_turn(t);
                 let left = t.counts;
@@ -59,7 +53,7 @@ fn print_walk(array: &[u8], choices: &[u8], threads: &mut [u32], count: usize) {
 fn print_started(array: &[u8], choices: &[u8], threads: &mut [u32]) {
     let answer = handover::start(array, choices, threads);
     match answer {
-        StartAnswer::Refused(r) => print_refused(r),
+        StartAnswer::Refused(r) => lines::print_refused(r),
         StartAnswer::Started(count) => print_walk(array, choices, threads, count),
     }
 }
@@ -79,7 +73,7 @@ fn main() {
     let n = io::read_full(STDIN_FILENO, &mut array);
     let answer = handover::read_array(&array[..n]);
     match answer {
-        ArrayAnswer::Refused(r) => print_refused(r),
+        ArrayAnswer::Refused(r) => lines::print_refused(r),
         ArrayAnswer::Read(t) => {
             let names = t.names;
             if 62 < names {
