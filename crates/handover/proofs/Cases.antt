@@ -44,8 +44,9 @@ use Rattle.handover.specs.declared.WalkAnswer.{WalkAnswer}
 use Rattle.handover.specs.declared.WalkAnswer.the-variants.{Walked, Refused}
 use Rattle.handover.specs.Engine.{startOf, stepOf, walkOf, nextLeft, strideOf, Left, saysWalk}
 use Rattle.handover.specs.Files.{pis, nodesA, inOrderA, turnedA, repeatedA, Case, cases, Unkept, Kept, remark, remarkedB}
-use Rattle.handover.specs.Files.{tablesRead, arraysRead, Letters}
+use Rattle.handover.specs.Files.{tablesRead, arraysRead, Letters, Denies, unmended}
 use Rattle.handover.specs.Files.{Answered, calls, toLeft, Ended, Answers, endings, Unlisted}
+use Rattle.handover.specs.Mending.{mendReply, mendOutput}
 use Rattle.handover.specs.Refusals.{done, StartNumber, WalkNumber}
 
 -- Whoever unfolds this unfolds every definition behind the answer.
@@ -177,6 +178,10 @@ tables-read = refl
 
 pub letters-hold : Letters
 letters-hold = (refl, refl)
+
+pub unmended-hold : All Denies unmended
+unfolding computed mendReply mendOutput
+unmended-hold = ((refl, refl), ((refl, refl), tt))
 
 pub calls-hold : All Answered calls
 unfolding computed startOf stepOf strideOf nextLeft M.markerMade M.onResult M.turnIn M.onFound M.nextIn

@@ -6,12 +6,12 @@ use mathlib.Core.Path.{_≡_, refl, sym, ap, ap₂, _∙_, subst}
 use mathlib.Core.Logic.{inl, inr}
 use mathlib.Core.Bool.{true, false, true≢false}
 use mathlib.Core.List.{List}
-use lib.ListN.{length, getD, take}
+use lib.ListN.{length, getD, take, drop}
 use borrow.Author.Tests.{le-leb, lt-leb}
 use Rattle.laws.specs.Search.{clear, hit}
 use Rattle.laws.specs.Lists.{put}
 use Rattle.laws.proofs.Search.{implies, test-clear, clear-test, hit-test, andThen-split, andThen-join, clear-andThen, hit-andThen, first-clear, every-true}
-use Rattle.laws.proofs.Put.{take-put}
+use Rattle.laws.proofs.Put.{length-put, take-put, drop-past}
 use Rattle.model.specs.Tree.{Array, isNew}
 use Rattle.model.specs.Formed.{WellFormed}
 use Rattle.model.specs.Rules.{rowBits, Each}
@@ -123,6 +123,8 @@ module _ (f s out : List ℕ) where
     leaves = sym (rw e);
     mends = λ n q. let z : true ≡ false = cc in absurd (true≢false z);
     listed = λ n p q. let z : r .number ≡ n = cc in subst MendNumber z h;
+    kept = λ n p q. refl;
+    past = λ n q. let z : true ≡ false = cc in absurd (true≢false z);
   }
 
   -- one of the readers'
@@ -158,6 +160,13 @@ module _ (f s out : List ℕ) where
         let n : length s ≡ 0 + length u = omega arith in
         ap (λ (k : ℕ). take k (put 0 u out)) n ∙ take-put 0 u out (omega arith)
 
+    -- what lies past it is as it was
+    behind : let left = put 0 (mendedTable f s) out in (length left ≡ length out) × (drop (length s) left ≡ drop (length s) out)
+    behind =
+        let u = mendedTable f s in
+        let e : length u ≡ length s = mended-table f s none bytes .size in
+        (length-put 0 u out (omega arith), drop-past 0 u out (omega arith) (length s) (omega arith))
+
     mend-done : let n = bitsSet (arrayIn f) (tableIn f s .row) (mendedRows f s) in MendPromise f s out (Mended n) (put 0 (mendedTable f s) out)
     unfolding mendReply mendOutput
     mend-done =
@@ -170,6 +179,8 @@ module _ (f s out : List ℕ) where
               subst (λ (u : List ℕ). MendedTable f s u n) (sym front)
               (subst (MendedTable f s (mendedTable f s)) z (mended-table f s none bytes));
           listed = λ n p q. let z : true ≡ false = cc in absurd (true≢false z);
+          kept = λ n p q. let z : true ≡ false = cc in absurd (true≢false z);
+          past = λ n q. behind;
         }
 
   pub mend-passed : (t : Trailer) (z : Sizes) (n : ℕ) (left : List ℕ) → readArray f ≡ A.Read t → tableRefusal f t s ≡ clear → z ≡ sizesOf t s

@@ -20,6 +20,7 @@ use Rattle.engine.specs.declared.Turn.{Turn}
 use Rattle.engine.specs.declared.Walk.{Walk}
 use Rattle.handover.specs.Refusals.{done, refused, ArrayNumber, TableNumber, StartNumber, StepNumber, WalkNumber}
 use Rattle.handover.specs.Front.{arrayIn, tableIn, Outcome, held, rule, SameBytes, OneOrder, OneFile, Demand3, SetsBounded}
+use Rattle.handover.specs.Mending.{mendReply, mendOutput}
 use Rattle.handover.specs.Engine as E
 use Rattle.handover.specs.Engine.{Told, turned, Left, left, startOf, stepOf, strideOf, WalkPromise}
 use Rattle.handover.specs.declared.WalkAnswer.{WalkAnswer}
@@ -223,6 +224,31 @@ arraysRead = (remarkedB, record { start = 8; nodes = 7; names = 1; sum = 6848566
 -- the letters that the files end with: P, I, S, 1 and P, I, C, 1
 abbrev pub Letters : Type 0
 Letters = (le32 pis1 ≡ 80 ∷ 73 ∷ 83 ∷ 49 ∷ []) × (le32 pic1 ≡ 80 ∷ 73 ∷ 67 ∷ 49 ∷ [])
+
+-- ---- mending: files and a lent output that are refused, with the refusal's number and place, and the output is left as it was
+
+pub record Unmended : Type 0 where
+  pub array : List ℕ
+  pub table : List ℕ
+  pub output : List ℕ
+  pub number : ℕ
+  pub place : ℕ
+
+abbrev pub unmendedCase : List ℕ → List ℕ → List ℕ → ℕ → ℕ → Unmended
+unmendedCase f s out n p = record { array = f; table = s; output = out; number = n; place = p }
+
+-- what a row says
+abbrev pub Denies : Unmended → Type 0
+Denies c =
+    (mendReply (c .array) (c .table) (c .output) ≡ refused (c .number) (c .place)) × (mendOutput (c .array) (c .table) (c .output) ≡ c .output)
+
+abbrev pub unmended : List Unmended
+unmended =
+    -- "32 when the lent output is shorter than the table": A, where no bit is missing, beside an output one byte shorter
+    unmendedCase (pis 3 nodesA) (tableBytesA 2 2 1 1 1) (replicate (length (tableBytesA 2 2 1 1 1) - 1) 7) 32 0
+    -- "checked after 31": A with a claim twice, beside an output of no bytes
+    ∷ unmendedCase (pis 3 nodesA) repeatedA [] 31 1
+    ∷ []
 
 -- ---- the engine: a call, and what it answers and leaves
 

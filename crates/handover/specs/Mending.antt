@@ -4,7 +4,7 @@ use mathlib.Core.Path.{_≡_}
 use mathlib.Core.Logic.{_↔_}
 use mathlib.Core.List.{List}
 use lib.Dec.{leb}
-use lib.ListN.{length, take}
+use lib.ListN.{length, take, drop}
 use Rattle.laws.specs.Search.{Found, clear, hit, andThen}
 use Rattle.laws.specs.Lists.{put}
 use Rattle.model.specs.Formed as F
@@ -80,3 +80,7 @@ pub record MendPromise (f s out : List ℕ) (x : MendAnswer) (left : List ℕ) :
   pub leaves : left ≡ mendOutput f s out
   pub mends : (n : ℕ) → saysMend x ≡ done n → MendedTable f s (take (length s) left) n
   pub listed : (n p : ℕ) → saysMend x ≡ refused n p → MendNumber n
+  -- the output that 02 lends is lent memory: after a refusal, also 32, every byte is as it was
+  pub kept : (n p : ℕ) → saysMend x ≡ refused n p → left ≡ out
+  -- "Output bytes past the table keep their content." (02)
+  pub past : (n : ℕ) → saysMend x ≡ done n → (length left ≡ length out) × (drop (length s) left ≡ drop (length s) out)

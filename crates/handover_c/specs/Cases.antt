@@ -14,6 +14,10 @@ use Rattle.handover_c.specs.Packed.{StepsInC}
 abbrev pub verdicts : List (Outcome × ℕ)
 verdicts = (rule 4 (1000 ∷ 700 ∷ 23 ∷ []), 25300511746052) ∷ []
 
+-- bits that were set, 2^8 × 300 and 2^8 × 65,536, the most that there are
+abbrev pub mends : List (ℕ × ℕ)
+mends = (300, 76800) ∷ (65536, 16777216) ∷ []
+
 -- 1 + 2^8 × 256 + 2^18 × 4,096 + 2^32 × 70,000
 abbrev pub walks : List (Walk × ℕ)
 walks = (record { ending = Spent; steps = 70000; counts = counts 256 4096 }, 300648784527361) ∷ []

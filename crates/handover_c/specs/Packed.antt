@@ -48,7 +48,7 @@ abbrev pub packedOutcome : Outcome → ℕ
 packedOutcome (held z) = 0
 packedOutcome (rule r figures) = r + packedPlace figures
 
--- mended: "code 0 plus 2^8 times the number of bits"
+-- mended: code 0 plus 2^8 times the number of bits
 abbrev pub packedMend : ℕ → ℕ
 packedMend n = 2 ^ 8 * n
 

@@ -3,12 +3,13 @@
 use Prim.Native.Nat.{ℕ, _+_, _<_}
 use mathlib.Core.Path.{_≡_, sym, ap, _∙_, subst}
 use mathlib.Core.Logic.{inl, inr}
-use mathlib.Core.Bool.{true, false, true≢false, false≢true}
+use mathlib.Core.Bool.{true, false, not, true≢false, false≢true}
 use mathlib.Core.List.{List}
 use lib.ListN.{getD}
 use borrow.Author.Count.{below-more}
+use borrow.Author.Tests.{not-true}
 use Rattle.laws.specs.Search.{every}
-use Rattle.laws.proofs.Search.{decided, and-split}
+use Rattle.laws.proofs.Search.{decided, and-split, or-split}
 use Rattle.marks.specs.Marks.{marked, inside}
 use Rattle.marks.proofs.Laws.{inside-marked, marked-inside}
 use Rattle.model.specs.Mend.{Rows}
@@ -21,9 +22,9 @@ use Rattle.pairs.specs.Pairs.{Setting, Given, Held, figuresOf, breaksPair}
 use Rattle.pairs.proofs.Laws.{alive}
 use Rattle.pairs.proofs.Search.{sideAt}
 use Rattle.senders.specs.Sets.{Family, sendsBy, Covers, Gathered}
-use Rattle.filter.specs.Filter.{mayCome, figuresPass}
+use Rattle.filter.specs.Filter.{mayCome, argInside, figuresPass}
 use Rattle.filter.proofs.Laws.{far-set, whole-set}
-use Rattle.mending.specs.Growing.{Grew, touches, Noted, Stale, SetNoted, AllNoted, NodeNoted, Swept}
+use Rattle.mending.specs.Growing.{Grew, setClear, touches, Noted, Stale, SetNoted, AllNoted, NodeNoted, Swept}
 use Rattle.mending.proofs.Noting.{regrown, noted-grew, own-off, sent-off}
 
 -- what was gathered from the rows of now
@@ -39,7 +40,8 @@ stale-now {S} g k = record {
 
 -- and of rows that have grown since
 abbrev pub stale-grew : {C : Rows → Type 0} {f : List ℕ} {t : Trailer} {n : ℕ} {rows loads bounds names chosen : List ℕ} {F : Family}
-    {links rows′ names′ : List ℕ} → Stale f t n rows loads bounds names chosen F links → Grew C rows names rows′ names′ → Stale f t n rows′ loads bounds names′ chosen F links
+    {links rows′ names′ : List ℕ} → Stale f t n rows loads bounds names chosen F links → Grew C rows names rows′ names′
+    → Stale f t n rows′ loads bounds names′ chosen F links
 stale-grew {rows = rows} k a = record {
   old = k .old;
   size = k .size;
@@ -84,6 +86,15 @@ module _ {S : Setting} (g : Given S) {p : Side} (hp : Held S p) (rp : isReceiver
   -- all that the set sends is contained
   pub whole-noted : figuresPass 3 (S .n) (F .needs) (F .unions) (S .rows) (S .loads) own p ≡ true → Noted S names p q
   whole-noted e = unless (λ off. whole-set 3 g hp rp F own q hq (and-split _ _ by .0) (covers-now off) e)
+
+  -- either of the two
+  pub clear-noted : setClear (F .unions) (F .arities) (S .rows) p own ≡ true → Noted S names p q
+  clear-noted e =
+      let inside = every (p .node .arity) (argInside (F .unions) (S .rows) own (p .node .args)) in
+      elim (or-split (not (mayCome (F .unions) (F .arities) (S .rows) own p)) inside e) [
+        | inl k ↦ far-noted (not-true _ k)
+        | inr k ↦ whole-noted k
+      ]
 
 -- a sender that was looked at by its number
 pub noted-of : (S : Setting) (names : List ℕ) (p q : Side) → Held S q → Noted S names p (sideAt S (q .number)) → Noted S names p q

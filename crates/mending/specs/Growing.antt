@@ -5,6 +5,7 @@ use mathlib.Core.Bool.{Bool, true, false, not, _&&_, _||_}
 use mathlib.Core.List.{List}
 use lib.Dec.{eqb, ltb}
 use lib.ListN.{length, getD}
+use Rattle.laws.specs.Search.{every}
 use Rattle.marks.specs.Marks.{marked, markIf, inside}
 use Rattle.model.specs.Tree.{Array, isNew}
 use Rattle.model.specs.Rules.{Rule3}
@@ -15,7 +16,8 @@ use Rattle.records.specs.Record.{nodeOf}
 use Rattle.records.specs.Kinds.{isReceiver}
 use Rattle.pairs.specs.declared.Side.{Side}
 use Rattle.pairs.specs.Pairs.{Setting, setting, Held, arrayIn, tableIn, breaksPair}
-use Rattle.senders.specs.Sets.{Family, sendsMarked, sendsBy, Gathered}
+use Rattle.senders.specs.Sets.{Family, family, sendsMarked, sendsBy, Gathered}
+use Rattle.filter.specs.Filter.{mayCome, argInside}
 
 -- ---- rows that grow
 
@@ -79,6 +81,16 @@ pub record Stale (f : List ℕ) (t : Trailer) (n : ℕ) (rows loads bounds names
   pub more : (v o : ℕ) → o < 256 → marked old v o ≡ true → marked rows v o ≡ true
   pub since : (v o : ℕ) → o < 256 → marked old v o ≡ false → marked rows v o ≡ true → marked names 0 v ≡ true
   pub gathered : Gathered 3 (setting f t n old loads bounds) chosen F links
+
+-- the same of sets that only keep what is sent and how: some list of needs and some links belong to them
+abbrev pub LargeSets : List ℕ → Trailer → ℕ → List ℕ → List ℕ → List ℕ → List ℕ → List ℕ → List ℕ → List ℕ → Type 0
+LargeSets f t n rows loads bounds names chosen unions arities =
+    (needs : List ℕ) × (links : List ℕ) × Stale f t n rows loads bounds names chosen (family needs unions arities) links
+
+-- no sender of set g may come to receiver p, or all that the set sends is contained
+abbrev pub setClear : List ℕ → List ℕ → List ℕ → Side → ℕ → Bool
+setClear unions arities rows p g =
+    not (mayCome unions arities rows g p) || every (p .node .arity) (argInside unions rows g (p .node .args))
 
 -- ---- which pairs were looked at: each that breaks rule 3 still uses a noted name
 

@@ -2,13 +2,15 @@
 // name whose row changed in the pass before, and sets of senders are asked before single ones.
 // Promises the rows that the model's rounds find, written with their word sum, and the number of bits set. Depends on lists (rows, loads, bounds), flows
 // (rows as bytes), filter and senders (sets of senders), pairs, frees (the names that news open), layout, loads, arrays, records, marks, wire, model and
-// laws. The lists take 106,592 bytes of stack, those of a sweep 6,712.
+// laws. The lists take 106,592 bytes of stack, those of a sweep 13,424.
 ghost use mathlib.Core.Path.{_≡_};
 ghost use mathlib.Core.Bool.{true, not, _&&_};
 ghost use mathlib.Core.List.{List};
 ghost use Prim.Native.Nat.{ℕ, _<_, _≤_};
 ghost use lib.ListN.{length, replicate};
+ghost use Rattle.laws.specs.Search.{every};
 ghost use Rattle.laws.specs.Lists.{put};
+ghost use Rattle.marks.specs.Marks.{HasRow};
 ghost use Rattle.model.specs.Tree.{isAgent};
 ghost use Rattle.model.specs.Mend.{mended, bitsSet};
 ghost use Rattle.records.specs.Record.{nodeOf, recordOf, arrayOf, RecordsFit};
@@ -19,8 +21,9 @@ ghost use Rattle.layout.specs.Table.{tableOf, IsTable};
 ghost use Rattle.flows.specs.Written.{rewritten};
 ghost use Rattle.pairs.specs.Pairs.{setting, Given, meets, liveBy, allHoldBy, Rooms, Figures, NameRow};
 ghost use Rattle.senders.specs.Sets.{family, Member, Linked};
+ghost use Rattle.filter.specs.Filter.{ArgRows};
 ghost use Rattle.mending.specs.Growing.{Grew, Added, Matched, Settled, PairAnswer, RuleThree, Noted, Stale};
-ghost use Rattle.mending.specs.Growing.{SetNoted, AllNoted, NodeNoted, Swept, Clean, Finished, OwnMarked};
+ghost use Rattle.mending.specs.Growing.{setClear, LargeSets, SetNoted, AllNoted, NodeNoted, Swept, Clean, Finished, OwnMarked};
 use layout::Sizes;
 use pairs::Side;
 use records::Record;
@@ -126,7 +129,35 @@ fn mend_members(
     }
 }
 
-// The pairs of p and the senders of set g. None of them is looked at where no sender may come, or where all that the set sends is contained already.
+// No sender of set g has to be looked at beside p: none may come, or all that the set sends is contained already.
+fn set_clear(unions: &[u64], arities: &[u64], rows: &[u64], g: usize, p: Side) -> bool
+    requires { ⌜ (g < 12) × (p .node .arity ≤ 8) × (length (now arities) ≡ 4) × HasRow (now unions) g × HasRow (now rows) (p .node .name)
+        × ArgRows (now unions) (now rows) g (p .node) ⌝ }
+    ensures { λ b. ⌜ b ≡ setClear (now (unions .entry)) (now (arities .entry)) (now (rows .entry)) p g ⌝ }
+{
+    if !filter::may_come(unions, arities, rows, g, p) {
+        return true;
+    }
+    filter::args_inside(unions, rows, g, p.node)
+}
+
+// No sender of any set has to be looked at.
+fn sets_clear(unions: &[u64], arities: &[u64], rows: &[u64], p: Side) -> bool
+    requires { ⌜ (p .node .arity ≤ 8) × (length (now arities) ≡ 4) × (length (now unions) ≡ 432) × HasRow (now rows) (p .node .name)
+        × ((g : ℕ) → g < 12 → ArgRows (now unions) (now rows) g (p .node)) ⌝ }
+    ensures { λ b. ⌜ b ≡ every 12 (setClear (now (unions .entry)) (now (arities .entry)) (now (rows .entry)) p) ⌝ }
+{
+    let mut g: usize = 0;
+    while g < 12 {
+        if !set_clear(unions, arities, rows, g, p) {
+            return false;
+        }
+        g += 1;
+    }
+    true
+}
+
+// The pairs of p and the senders of set g, where they have to be looked at.
 fn mend_set(
     rows: &mut [u64],
     names: &mut [u64],
@@ -153,10 +184,7 @@ fn mend_set(
         → SetNoted (setting (now (file .entry)) t balances (now (rows .exit)) (now (loads .entry)) (now (bounds .entry))) (now (names .exit)) chosen
         (k .gathered .sets) p g) ⌝ }
 {
-    if !filter::may_come(unions, arities, rows, g, p) {
-        return;
-    }
-    if filter::args_inside(unions, rows, g, p.node) {
+    if set_clear(unions, arities, rows, g, p) {
         return;
     }
     mend_members(rows, names, file, t, balances, loads, bounds, links, g, p);
@@ -208,7 +236,7 @@ fn mend_receiver(
     }
 }
 
-// The pairs of node i, where it receives on a name that is marked in `reach`, and all senders that were gathered.
+// The pairs of node i, where it receives on a name that is marked in `reach`, and all senders that were gathered: large sets are asked before small ones.
 fn mend_node(
     reach: &[u64],
     rows: &mut [u64],
@@ -218,6 +246,8 @@ fn mend_node(
     balances: usize,
     loads: &[u32],
     bounds: &[u32],
+    large: &[u64],
+    lengths: &[u64],
     needs: &[u32],
     unions: &[u64],
     arities: &[u64],
@@ -227,11 +257,13 @@ fn mend_node(
     requires { ⌜ Given (setting (now file) t balances (now rows) (now loads) (now bounds)) × (length (now names) ≡ 4) × (length (now reach) ≡ 4)
         × (i < t .nodes) ⌝ }
     requires { ⌜ ((chosen : List ℕ) × Stale (now file) t balances (now rows) (now loads) (now bounds) (now names) chosen
-        (family (now needs) (now unions) (now arities)) (now links)) ⌝ }
+        (family (now needs) (now unions) (now arities)) (now links)) × (length (now large) ≡ 432) × (length (now lengths) ≡ 4) ⌝ }
     ensures { λ _. ⌜ Grew (RuleThree (setting (now (file .entry)) t balances (now (rows .entry)) (now (loads .entry)) (now (bounds .entry))))
         (now (rows .entry)) (now (names .entry)) (now (rows .exit)) (now (names .exit)) ⌝ }
     ensures { λ _. ⌜ ((chosen : List ℕ) → Stale (now (file .entry)) t balances (now (rows .entry)) (now (loads .entry)) (now (bounds .entry))
         (now (names .entry)) chosen (family (now (needs .entry)) (now (unions .entry)) (now (arities .entry))) (now (links .entry))
+        → LargeSets (now (file .entry)) t balances (now (rows .entry)) (now (loads .entry)) (now (bounds .entry)) (now (names .entry)) chosen
+        (now (large .entry)) (now (lengths .entry))
         → NodeNoted (setting (now (file .entry)) t balances (now (rows .exit)) (now (loads .entry)) (now (bounds .entry))) (now (names .exit)) chosen
         (now (reach .entry)) i) ⌝ }
 {
@@ -243,6 +275,9 @@ fn mend_node(
         return;
     }
     if !marks::is_marked(reach, 0, p.node.name) {
+        return;
+    }
+    if sets_clear(large, lengths, rows, p) {
         return;
     }
     mend_receiver(
@@ -261,7 +296,43 @@ fn mend_node(
     );
 }
 
-// The pairs of a receiver on a name that is marked in `reach` and a sender that uses a name that is marked in `chosen`.
+// The chosen senders in sets by arity, of which only what is sent and how is kept.
+fn gather_large(
+    large: &mut [u64],
+    lengths: &mut [u64],
+    chosen: &[u64],
+    file: &[u8],
+    t: Trailer,
+    balances: usize,
+    rows: &[u64],
+    loads: &[u32],
+)
+    requires { ⌜ ((bounds : List ℕ) × Given (setting (now file) t balances (now rows) (now loads) bounds)) ⌝ }
+    requires { ⌜ (length (now large) ≡ 432) × (length (now lengths) ≡ 4) × (length (now chosen) ≡ 4) ⌝ }
+    ensures { λ _. ⌜ (length (now (large .exit)) ≡ 432) × (length (now (lengths .exit)) ≡ 4) × ((bounds : List ℕ) (names : List ℕ)
+        → LargeSets (now (file .entry)) t balances (now (rows .entry)) (now (loads .entry)) bounds names (now (chosen .entry))
+        (now (large .exit)) (now (lengths .exit))) ⌝ }
+{
+    let mut needs = [0u32; 288];
+    let mut links = [0u16; 1036];
+    senders::gather(
+        3,
+        false,
+        chosen,
+        &mut needs,
+        large,
+        lengths,
+        &mut links,
+        file,
+        t,
+        balances,
+        rows,
+        loads,
+    );
+}
+
+// The pairs of a receiver on a name that is marked in `reach` and a sender that uses a name that is marked in `chosen`. Rule 3 asks for no needs; the sets
+// have them for rule 4.
 fn sweep(
     chosen: &[u64],
     reach: &[u64],
@@ -280,6 +351,18 @@ fn sweep(
     ensures { λ _. ⌜ Swept (setting (now (file .entry)) t balances (now (rows .exit)) (now (loads .entry)) (now (bounds .entry))) (now (names .exit))
         (now (chosen .entry)) (now (reach .entry)) (t .nodes) ⌝ }
 {
+    let mut large = [0u64; 432];
+    let mut lengths = [0u64; 4];
+    gather_large(
+        &mut large,
+        &mut lengths,
+        chosen,
+        file,
+        t,
+        balances,
+        rows,
+        loads,
+    );
     let mut needs = [0u32; 288];
     let mut unions = [0u64; 432];
     let mut arities = [0u64; 4];
@@ -309,6 +392,8 @@ fn sweep(
             balances,
             loads,
             bounds,
+            &large,
+            &lengths,
             &needs,
             &unions,
             &arities,

@@ -411,6 +411,7 @@ record AsksA (s : Rows) : Type 0 where
   first : s 0 0 ≡ true
   second : s 1 1 ≡ true
   third : s 2 1 ≡ true
+  handed : (o : ℕ) → o < rowBits → s 1 o ≡ true → s 2 o ≡ true
 
 asksA : (l : List (List ℕ)) (s : Rows) → Mends A (flowA l) s → AsksA s
 unfolding computed table
@@ -424,7 +425,9 @@ asksA l s m =
       shares = (0, omega arith, r₀, r₀);
       fits = λ k h. let z : 1 ≤ 1 = omega arith in z;
     } in
-    record { first = r₀; second = r₁; third = m .rule3 5 (omega arith) 3 (omega arith) _ _ refl refl lives 0 (omega arith) 1 (omega arith) r₁ }
+    let handed : (o : ℕ) → o < rowBits → s 1 o ≡ true → s 2 o ≡ true =
+    m .rule3 5 (omega arith) 3 (omega arith) _ _ refl refl lives 0 (omega arith) in
+    record { first = r₀; second = r₁; third = handed 1 (omega arith) r₁; handed = handed }
 
 leastA : (s : Rows) → AsksA s → Contained A (rowsOf rowsA) s
 leastA s k zero h o l e = subst (λ x. s 0 x ≡ true) (sym (only 0 o e)) (k .first)
@@ -465,6 +468,31 @@ mend-wide =
     least s m zero h o l e = m .contains 0 h o l e
     least s m (suc v) h o l e = leastA s (asksA ((0 ∷ 1 ∷ []) ∷ [] ∷ [] ∷ []) s m) (suc v) h o l e
 
+-- a row that gets two bits
+abbrev narrow : List (List ℕ)
+narrow = [] ∷ (0 ∷ []) ∷ [] ∷ []
+
+abbrev double : List (List ℕ)
+double = (0 ∷ []) ∷ (0 ∷ 1 ∷ []) ∷ (0 ∷ 1 ∷ []) ∷ []
+
+mend-double : Says (Row.smallest A (flowA narrow) double 4)
+unfolding computed table
+mend-double =
+    let r = held-rules A (flowA double) .0 refl in
+    (record { mends = record { contains = contained-by A _ _ refl; rule1 = r .rule1; rule3 = r .rule3 }; least = λ s m. least s m (asksA narrow s m) }, refl)
+  where
+    both : (s : Rows) (v o : ℕ) → s v 0 ≡ true → s v 1 ≡ true → L.has (0 ∷ 1 ∷ []) o ≡ true → s v o ≡ true
+    both s v o z u e =
+        ⊎-elim (λ h. subst (λ x. s v x ≡ true) (sym (eqb-true o 0 h)) z) (λ h. subst (λ x. s v x ≡ true) (sym (only 1 o h)) u)
+        (or-split (eqb o 0) (L.has (1 ∷ []) o) e)
+
+    least : (s : Rows) → Mends A (flowA narrow) s → AsksA s → Contained A (rowsOf double) s
+    least s m k zero h o l e = subst (λ x. s 0 x ≡ true) (sym (only 0 o e)) (k .first)
+    least s m k (suc zero) h o l e = both s 1 o (m .contains 1 (omega arith) 0 (omega arith) refl) (k .second) e
+    least s m k (suc (suc zero)) h o l e =
+        both s 2 o (k .handed 0 (omega arith) (m .contains 1 (omega arith) 0 (omega arith) refl)) (k .third) e
+    least s m k (suc (suc (suc v))) h o l e = absurd (omega arith)
+
 -- E, whose pair lives under the greater bound only
 mend-apart : Says (Row.smallest E (flowE 1 ((0 ∷ []) ∷ [] ∷ [] ∷ [])) ((0 ∷ []) ∷ (1 ∷ []) ∷ [] ∷ []) 1)
 unfolding computed table
@@ -495,7 +523,9 @@ mend-meeting =
           shares = (0, omega arith, r₀, r₀);
           fits = λ k h. let z : 2 ≤ 2 = omega arith in z;
         } in
-        record { first = r₀; second = r₁; third = m .rule3 4 (omega arith) 3 (omega arith) _ _ refl refl lives 0 (omega arith) 1 (omega arith) r₁ }
+        let handed : (o : ℕ) → o < rowBits → s 1 o ≡ true → s 2 o ≡ true =
+        m .rule3 4 (omega arith) 3 (omega arith) _ _ refl refl lives 0 (omega arith) in
+        record { first = r₀; second = r₁; third = handed 1 (omega arith) r₁; handed = handed }
 
 lacks-rule1 : Says (Row.notSmallest A (flowA ((0 ∷ []) ∷ [] ∷ [] ∷ [])) ((0 ∷ []) ∷ [] ∷ [] ∷ []))
 unfolding computed table
@@ -545,8 +575,40 @@ pub later-cases : All Says laterRows
 later-cases = (later-receiver, (later-sender, (rule-2-first, (rule-3-first, (later-claim, (kept-claim, tt))))))
 
 pub mend-cases : All Says mendRows
-mend-cases =
-    (mend-two, (mend-three, (mend-none, (mend-wide, (mend-apart, (mend-meeting, (lacks-rule1, (lacks-rule3, (lacks-given, (has-more, tt))))))))))
+mend-cases = (
+  mend-two,
+  (
+    mend-three,
+    (
+      mend-none,
+      (
+        mend-wide,
+        (
+          mend-double,
+          (
+            mend-apart,
+            (
+              mend-meeting,
+              (
+                lacks-rule1,
+                (
+                  lacks-rule3,
+                  (
+                    lacks-given,
+                    (
+                      has-more,
+                      tt,
+                    ),
+                  ),
+                ),
+              ),
+            ),
+          ),
+        ),
+      ),
+    ),
+  ),
+)
 
 -- ---- demand 3 at A: its array is well formed, its table is accepted, so every configuration that A can come to is safe
 

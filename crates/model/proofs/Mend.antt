@@ -329,7 +329,3 @@ smallest-opened a t h r s =
 
 pub rules-left : (a : Array) (u : Table) → Rule1 a u → Rule3 a u → Rules a u ↔ (Rule2 a u × Rule4 a u × Rule5 a u)
 rules-left a u r₁ r₃ = (λ r. (r .rule2, r .rule4, r .rule5), λ h. record { rule1 = r₁; rule2 = h .0; rule3 = r₃; rule4 = h .1; rule5 = h .2 })
-
-pub accepted-exactly : (a : Array) (t : Table) (r : Rows) → Mends a t r
-    → Rules a (withRows t r) ↔ (Rule2 a (withRows t r) × Rule4 a (withRows t r) × Rule5 a (withRows t r))
-accepted-exactly a t r m = rules-left a (withRows t r) (m .rule1) (m .rule3)

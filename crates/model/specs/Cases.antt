@@ -429,6 +429,8 @@ mendRows =
     -- Nothing is missing; a bit that no rule asks for stays.
     ∷ smallest A tableA rowsA 0
     ∷ smallest A (flowA ((0 ∷ 1 ∷ []) ∷ [] ∷ [] ∷ [])) ((0 ∷ 1 ∷ []) ∷ (1 ∷ []) ∷ (1 ∷ []) ∷ []) 2
+    -- Bits are counted, not rows: row 2 gets two.
+    ∷ smallest A (flowA ([] ∷ (0 ∷ []) ∷ [] ∷ [])) ((0 ∷ []) ∷ (0 ∷ 1 ∷ []) ∷ (0 ∷ 1 ∷ []) ∷ []) 4
     -- Under the balances: E's pair does not live by bound 1, and does by 2.
     ∷ smallest E (flowE 1 ((0 ∷ []) ∷ [] ∷ [] ∷ [])) ((0 ∷ []) ∷ (1 ∷ []) ∷ [] ∷ []) 1
     ∷ smallest E (flowE 2 ((0 ∷ []) ∷ [] ∷ [] ∷ [])) ((0 ∷ []) ∷ (1 ∷ []) ∷ (1 ∷ []) ∷ []) 2

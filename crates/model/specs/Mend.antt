@@ -23,6 +23,10 @@ withRows t r = record { row = r; balances = t .balances; balance = t .balance; c
 abbrev pub AtMost : Bool → Bool → Type 0
 AtMost x y = x ≡ true → y ≡ true
 
+-- it says more than another
+abbrev pub raised : Bool → Bool → Bool
+raised y x = y && not x
+
 -- rows r are contained in rows s: what they say of each opening is at most what s say, at every name of the array
 abbrev pub Contained : Array → Rows → Rows → Type 0
 Contained a r s = Each (a .names) λ v. Each rowBits λ o. AtMost (r v o) (s v o)
@@ -64,4 +68,4 @@ mended a t = rounds (a .names * rowBits) a t (t .row)
 
 -- "returns the number of bits set": those that rows s have and rows r have not
 unfoldable pub bitsSet : Array → Rows → Rows → ℕ
-bitsSet a r s = sum (a .names) λ v. sum rowBits λ o. one (s v o && not (r v o))
+bitsSet a r s = sum (a .names) λ v. sum rowBits λ o. one (raised (s v o) (r v o))

@@ -1,7 +1,7 @@
 -- The nodes passed so far were looked at beside the senders that were gathered at the start.
 use Prim.Native.Nat.{_≤_, _-_}
 use denote.Ref.{now}
-use mathlib.Core.Path.{_∙_}
+use mathlib.Core.Path.{refl, _∙_}
 use borrow.Author.Needs.{needs}
 use native.Mathlib.Omega.{arith}
 use Rattle.pairs.specs.Pairs.{setting}
@@ -14,39 +14,50 @@ use Rattle.mending.proofs.sweep.Statement.{statement}
 use Rattle.mending.proofs.sweep.Tie as tie
 
 abbrev Inv-loop : tie.InvT-loop
-Inv-loop chosen reach rows₀ names₀ file t balances loads bounds needs unions arities links i₀ rows names i =
+Inv-loop chosen reach rows₀ names₀ file t balances loads bounds large lengths needs unions arities links i₀ rows names i =
     (i ≤ t .nodes)
     × Grew (RuleThree (setting file t balances rows₀ loads bounds)) rows₀ names₀ rows names
     × Swept (setting file t balances rows loads bounds) names chosen reach i
 
 abbrev μ-loop : tie.MeasureT-loop
-μ-loop chosen reach rows₀ names₀ file t balances loads bounds needs unions arities links i₀ rows names i = t .nodes - i
+μ-loop chosen reach rows₀ names₀ file t balances loads bounds large lengths needs unions arities links i₀ rows names i = t .nodes - i
 
 -- stations
-abbrev at-needs : tie.After-gather-arg Inv-loop μ-loop → tie.After-needs Inv-loop μ-loop
-at-needs c = c .before .before .before .before
-
-abbrev at-slice-known2 : tie.After-needs Inv-loop μ-loop → tie.After-slice-known2 Inv-loop μ-loop
+abbrev at-slice-known2 : tie.After-large Inv-loop μ-loop → tie.After-slice-known2 Inv-loop μ-loop
 at-slice-known2 c = c .before .before .before .before
 
 abbrev at-start : tie.After-slice-known2 Inv-loop μ-loop → tie.Start Inv-loop μ-loop
 at-start c = c .before .before .before .before
 
-abbrev at-if1 : tie.After-unions3 Inv-loop μ-loop → tie.Then1 Inv-loop μ-loop
-at-if1 c = c .before .before .before .before
+abbrev at-large2 : tie.After-arities Inv-loop μ-loop → tie.After-large2 Inv-loop μ-loop
+at-large2 c = c .before .before .before .before
 
-abbrev at-arities2 : tie.Then1 Inv-loop μ-loop → tie.After-arities2 Inv-loop μ-loop
-at-arities2 c = c .before .before .before .before
+abbrev at-large : tie.After-large2 Inv-loop μ-loop → tie.After-large Inv-loop μ-loop
+at-large c = c .before .before .before .before
 
-abbrev at-gather-arg : tie.After-arities2 Inv-loop μ-loop → tie.After-gather-arg Inv-loop μ-loop
-at-gather-arg c = c .before .before .before .before
+abbrev at-mend-node-arg2 : tie.After-unions3 Inv-loop μ-loop → tie.After-mend-node-arg2 Inv-loop μ-loop
+at-mend-node-arg2 c = c .before .before .before .before
+
+abbrev at-loop : tie.After-mend-node-arg2 Inv-loop μ-loop → tie.At-loop Inv-loop μ-loop
+at-loop c = c .before .before .before .before
+
+abbrev at-needs2 : tie.At-loop Inv-loop μ-loop → tie.After-needs2 Inv-loop μ-loop
+at-needs2 c = c .before .before .before .before
+
+abbrev at-arities : tie.After-needs2 Inv-loop μ-loop → tie.After-arities Inv-loop μ-loop
+at-arities c = c .before .before .before .before
 
 abbrev at-unions3 : tie.After-rows Inv-loop μ-loop → tie.After-unions3 Inv-loop μ-loop
 at-unions3 c = c .before .before .before .before
 
+gather-large-requires : tie.Need-gather-large-requires Inv-loop μ-loop
+gather-large-requires c κs =
+    let s = at-start (at-slice-known2 (c .before .before)) in
+    ((now (s .args .bounds), s .pre .0), (refl, refl, s .pre .3))
+
 gather-requires : tie.Need-gather-requires Inv-loop μ-loop
 gather-requires c κs =
-    let s = at-start (at-slice-known2 (at-needs c)) in
+    let s = at-start (at-slice-known2 (at-large (at-large2 (c .before .before)))) in
     ((now (s .args .bounds), s .pre .0), (empty-room, search needs, s .pre .3))
 
 loop-holds : tie.Need-loop-holds Inv-loop μ-loop
@@ -54,27 +65,30 @@ loop-holds c = (omega arith, grew-same _ _ _, λ i h. absurd (omega (arith, h)))
 
 mend-node-requires : tie.Need-mend-node-requires Inv-loop μ-loop
 mend-node-requires c κs =
-    let s = at-start (at-slice-known2 (at-needs (at-gather-arg (at-arities2 (at-if1 (c .before .before)))))) in
+    let s = at-start (at-slice-known2 (at-large (at-large2 (at-arities (at-needs2 (at-loop (at-mend-node-arg2 (c .before .before)))))))) in
     let p = s .pre in
-    let k = at-arities2 (at-if1 (c .before .before)) .before .before .before .gather in
-    let a = c .before .before .before .before .before .before .before .before .loop .inv .1 in (
-      (given-again (p .0) (a .size), a .marks ∙ p .1, p .2, omega (arith, c .before .before .before .before .before .before .if1 .taken)),
-      (now (s .args .chosen), stale-grew (stale-now (p .0) (k .ensures (now (s .args .bounds)))) a),
+    let a = at-loop (at-mend-node-arg2 (c .before .before)) .loop .inv .1 in
+    let k = at-needs2 (at-loop (at-mend-node-arg2 (c .before .before))) .before .gather in
+    let b = at-large2 (at-arities (at-needs2 (at-loop (at-mend-node-arg2 (c .before .before))))) .before .gather-large .ensures in (
+      (given-again (p .0) (a .size), a .marks ∙ p .1, p .2, omega (arith, c .before .before .before .before .before .before .before .before .if1 .taken)),
+      ((now (s .args .chosen), stale-grew (stale-now (p .0) (k .ensures (now (s .args .bounds)))) a), b .0, b .1),
     )
 
 loop-again : tie.Need-loop-again Inv-loop μ-loop
 loop-again c =
-    let s = at-start (at-slice-known2 (at-needs (at-gather-arg (at-arities2 (at-if1 (at-unions3 (c .before .before .before))))))) in
+    let s = at-start (at-slice-known2 (at-large (at-large2 (at-arities (at-needs2 (at-loop (at-mend-node-arg2 (at-unions3 (c .before .before .before))))))))) in
     let p = s .pre in
     let x = s .args in
-    let l = at-if1 (at-unions3 (c .before .before .before)) .before .before .loop in
+    let l = at-loop (at-mend-node-arg2 (at-unions3 (c .before .before .before))) .loop in
     let a = l .inv .1 in
-    let k = at-arities2 (at-if1 (at-unions3 (c .before .before .before))) .before .before .before .gather in
+    let h = at-needs2 (at-loop (at-mend-node-arg2 (at-unions3 (c .before .before .before)))) in
+    let k = h .before .gather in
+    let b = at-large2 (at-arities h) .before .gather-large .ensures .2 (now (x .bounds)) (now (x .names)) in
     let m = c .before .before .before .before .mend-node .ensures in (
-      omega (arith, at-if1 (at-unions3 (c .before .before .before)) .if1 .taken),
+      omega (arith, at-mend-node-arg2 (at-unions3 (c .before .before .before)) .before .before .if1 .taken),
       grew-trans a (m .0),
       swept-more (given-again (p .0) (a .size)) (l .names) (now (x .chosen)) (now (x .reach)) (l .i) (l .inv .2) (m .0)
-          (m .1 (now (x .chosen)) (stale-grew (stale-now (p .0) (k .ensures (now (x .bounds)))) a)),
+          (m .1 (now (x .chosen)) (stale-grew (stale-now (p .0) (k .ensures (now (x .bounds)))) a) (b .0, b .1, stale-grew (b .2) a)),
     )
 
 same-length : tie.Need-same-length Inv-loop μ-loop
@@ -93,6 +107,7 @@ pub sweep-spec : {M : Type 1} → statement M
 sweep-spec =
     tie.close
     (tie.spec
-    Inv-loop μ-loop (λ c. search needs) (λ c. search needs) (λ c. search needs) (λ c. search needs) gather-requires loop-holds
-    (λ c. search needs) (λ c. search needs) (λ c. search needs) (λ c. search needs) mend-node-requires (λ c. search needs) (λ c. search needs)
-    loop-again same-length same-length-2 returns)
+    Inv-loop μ-loop (λ c. search needs) (λ c. search needs) gather-large-requires (λ c. search needs) (λ c. search needs) (λ c. search needs)
+    (λ c. search needs) gather-requires loop-holds (λ c. search needs) (λ c. search needs) (λ c. search needs) (λ c. search needs)
+    (λ c. search needs) (λ c. search needs) mend-node-requires (λ c. search needs) (λ c. search needs) loop-again same-length same-length-2
+    returns)
