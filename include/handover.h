@@ -2,17 +2,18 @@
  * handover.h: the handover checker for C.
  *
  * A static library without state, threads or allocation. Every function ends on every input, reads and writes nothing but the buffers
- * it is lent, and after a refusal leaves every lent word as it was: this is proved, of the Rattle code, under the conditions below.
+ * it is lent, and after a refusal leaves every lent byte and word as it was: this is proved, of the Rattle code, under the conditions
+ * below.
  *
  * What the caller must see to, for nothing can check it:
  *   - A pointer points at as many elements as the length behind it says, and is aligned for its type. Lengths count elements, not bytes.
- *   - A list that is written (threads, markers) overlaps no other buffer of the call.
+ *   - A list that is written (threads, markers, output) overlaps no other buffer of the call.
  *   - No other thread writes a buffer during the call.
  *   - The stack has 512 KiB to spare (docs/PERFORMANCE.md says what was measured).
  * With length 0 the pointer may be NULL; nothing is read through it.
  *
- * Refusals are numbered as in the scope paper and the requests that follow it: 1 to 12 the array, 13 to 21, 30 and 31 the table, 22 the
- * choice bytes, 23 the lent lists, 24 to 29 the step. Each has a place, 0 where none is named. handover(3) lists them.
+ * Refusals are numbered as in the scope paper and the requests that follow it: 1 to 12 the array, 13 to 21, 30 and 31 the table, 32 the
+ * output, 22 the choice bytes, 23 the lent lists, 24 to 29 the step. Each has a place, 0 where none is named. handover(3) lists them.
  */
 #ifndef HANDOVER_H
 #define HANDOVER_H
@@ -36,6 +37,20 @@ extern "C" {
  * 2^8, the second times 2^24, the third times 2^40. A figure that the rule or refusal does not have is 0.
  */
 uint64_t handover_check(const uint8_t *array, size_t array_len, const uint8_t *table, size_t table_len);
+
+/*
+ * Mends a table: writes it to the start of `output`, with the row bits set that rules 1 and 3 ask for and with its new word sum. All else
+ * is copied as it came, and where no bit is missing the whole table is.
+ *
+ * The rows are the smallest that contain the given ones and meet both rules under the table's balances. So no check refuses the mended
+ * table; of the rules it can break 2, 4 and 5 alone, and mending it once more sets no bit.
+ *
+ * The low 8 bits are 0, and 2^8 times the number of bits set follows (at most 65,536); or 100 plus the number of the first refusal, and
+ * 2^8 times the place. Refusals 1 to 21, 30 and 31 as of handover_check, then 32 where `output` is shorter than the table. Bytes past the
+ * table keep their content.
+ */
+uint64_t handover_mend(const uint8_t *array, size_t array_len, const uint8_t *table, size_t table_len, uint8_t *output,
+                       size_t output_len);
 
 /*
  * The three calls of the engine return a code in the low 8 bits:

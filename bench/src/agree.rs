@@ -58,31 +58,54 @@ fn met(codes: &BTreeSet<u64>, wanted: impl Iterator<Item = u64>) {
     assert!(missing.is_empty(), "never answered: {missing:?}");
 }
 
+/// A check of files with up to two changes.
+fn changed(random: &mut Random, files: &Files) -> Case {
+    let (array, table) = (files.array.clone(), files.table.clone());
+    let mut case = Case { array, table, choices: vec![], lent: Lent::default(), call: Call::Check };
+    for _ in 0..random.below(3) {
+        if random.below(2) == 0 {
+            change(random, &mut case.array);
+            rename(&mut case);
+        } else {
+            change(random, &mut case.table);
+        }
+        if case.array.len() < 8 || case.table.len() < 28 {
+            break;
+        }
+    }
+    case
+}
+
 #[test]
 fn checks_agree() {
     let mut random = Random::of(1, 0, 0);
     let mut codes = BTreeSet::new();
     let small = small_files();
     for round in 0..200_000 {
-        let Files { array, table, .. } = &small[round % small.len()];
-        let (array, table) = (array.clone(), table.clone());
-        let mut case = Case { array, table, choices: vec![], lent: Lent::default(), call: Call::Check };
-        for _ in 0..random.below(3) {
-            if random.below(2) == 0 {
-                change(&mut random, &mut case.array);
-                rename(&mut case);
-            } else {
-                change(&mut random, &mut case.table);
-            }
-            if case.array.len() < 8 || case.table.len() < 28 {
-                break;
-            }
-        }
+        let mut case = changed(&mut random, &small[round % small.len()]);
         codes.insert(agreed(&case) & 0xff);
         case.call = Call::Read;
         agreed(&case);
     }
     met(&codes, (0..=5).chain(101..=121).chain([130, 131]));
+}
+
+/// Outputs of the table's length, and one byte longer and shorter.
+#[test]
+fn mendings_agree() {
+    let mut random = Random::of(4, 0, 0);
+    let mut codes = BTreeSet::new();
+    let mut small: Vec<Files> = small_files().into_iter().map(designs::emptied).collect();
+    small.extend(small_files());
+    small.extend([designs::sent_on(9), designs::own_channels(9), designs::received_on(9), designs::waves(3, 5)]);
+    for round in 0..40_000 {
+        let mut case = changed(&mut random, &small[round % small.len()]);
+        case.lent.output = vec![number(&mut random) as u8; (case.table.len() + random.below(3)).saturating_sub(1)];
+        case.call = Call::Mend;
+        let answer = agreed(&case);
+        codes.insert(if answer > 0 && answer & 0xff == 0 { 1 } else { answer & 0xff });
+    }
+    met(&codes, (0..=1).chain(101..=121).chain(130..=132));
 }
 
 /// Claims with faults of 21, 30 and 31, alone and together.

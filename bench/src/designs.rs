@@ -1,12 +1,14 @@
 //! The designs of the checker: array and table. Unless a part says otherwise, each has weight 1 for every agent in K
 //! balances of bound 2 and 256 claims where K isn't 0 (fewer where agents are too few for one set). All are held, but
-//! for `broken`; so no version may leave a live pair out, alone or in a set.
+//! for `broken` and those for mending; so no version may leave a live pair out, alone or in a set.
 
 mod defeats;
 mod fleet;
+mod travels;
 
 pub use defeats::{defeat, defeat3, defeat_sparse, ended, within, within_rows, within_sparse, within_spread};
 pub use fleet::{fleet, fleet_mixed};
+pub use travels::{emptied, flooded, own_channels, received_on, sent_on, waves, with_rows};
 
 use crate::files::{array_file, chain, record, table_file, Agent, Balance, Claim, Record, IN, NEW, OUT, PAR};
 use outside::order;

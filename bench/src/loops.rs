@@ -4,13 +4,14 @@ use crate::files::{array_file, chain, record, stop, Record, IN, NEW, OUT, PAR, R
 
 pub const MARKERS: usize = 4096;
 
-/// The two lists of a configuration and how much of them is in use.
+/// The two lists of a configuration and how much of them is in use, and the output of a mending.
 #[derive(Clone, Default, PartialEq)]
 pub struct Lent {
     pub threads: Vec<u32>,
     pub thread_count: usize,
     pub markers: Vec<u16>,
     pub marker_count: usize,
+    pub output: Vec<u8>,
 }
 
 pub struct Loaded {
@@ -84,5 +85,5 @@ fn started(array: Vec<u8>, names: usize, marker_count: usize) -> Loaded {
     let answer = handover::start(&array, &[0; 128], &mut threads);
     assert_eq!(handover::code(answer), 0, "the start is refused");
     let thread_count = handover::counts(answer).0;
-    Loaded { array, names, lent: Lent { threads, thread_count, markers, marker_count } }
+    Loaded { array, names, lent: Lent { threads, thread_count, markers, marker_count, output: vec![] } }
 }

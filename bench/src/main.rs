@@ -1,5 +1,5 @@
 //! Times the proved library beside the plain and the tuned version, on the same inputs in one process, and
-//! prints Markdown tables.
+//! prints Markdown tables. Mending is timed beside the plain version alone.
 
 #[cfg(test)]
 mod agree;
@@ -12,8 +12,9 @@ mod versions;
 
 use designs::Files;
 use loops::Loaded;
+use outside::files::ROW;
 use timing::{measure, Measured};
-use versions::{Call, Case, FILTERED, VERSIONS};
+use versions::{left, Call, Case, BESIDE_PLAIN, FILTERED, VERSIONS};
 
 /// As many copies as names allow.
 const FLEET: usize = 15;
@@ -129,6 +130,52 @@ fn filters() {
     filtered("defeat", &designs::defeat(1024, 24));
 }
 
+/// Measures a mending, and the check of the mended table, which is to give `answer`.
+fn mend(name: &str, files: &Files, answer: u64) {
+    let mut case = check_case(files, Call::Mend);
+    case.lent.output = vec![0; files.table.len()];
+    let (bits, lent) = left(&case);
+    assert_eq!(handover::refusal(bits), None, "{name}");
+    let [proved, plain] = measure(&case, &BESIDE_PLAIN).best;
+    let checked = measure(&Case { table: lent.output, ..check_case(files, Call::Check) }, &BESIDE_PLAIN);
+    assert_eq!(checked.answer & 0xff, answer, "{name}");
+    let check = checked.best[0];
+    let ratios = [proved / plain, proved / check].map(|ratio| format!("{ratio:.2}"));
+    let bits = [handover::bits(bits).to_string()];
+    row(&[&design(name, files)[..], &bits, &[proved, plain, check].map(time), &ratios].concat());
+}
+
+fn mendings() {
+    let columns = ["design", "M", "N", "K", "bits set"];
+    let versions = ["mend proved", "mend plain", "check of the mended table"];
+    begin("Mending", &columns, &versions, "µs", &["proved/plain", "mend/check"]);
+    mend("arguments, held", &designs::arguments(1024, 256, 24), 0);
+    mend("defeat3, held", &designs::defeat3(1024, 256, 24), 0);
+    mend("within_rows, held", &designs::within_rows(1024, 256, 24), 0);
+    mend("sparse, held (no arguments)", &designs::sparse(1024, 128, 24), 0);
+    mend("fleet, held", &designs::fleet(FLEET), 0);
+    mend("fleet_mixed, held", &designs::fleet_mixed(FLEET), 0);
+    mend("arguments, all rows empty", &designs::emptied(designs::arguments(1024, 256, 24)), 0);
+    mend("arguments, one parameter's row full, the others empty", &one_full(designs::arguments(1024, 256, 24)), 0);
+    mend("fleet, all rows empty", &designs::emptied(designs::fleet(FLEET)), 0);
+    mend("fleet_mixed, all rows empty", &designs::emptied(designs::fleet_mixed(FLEET)), 0);
+    mend("flooded", &designs::flooded(), 0);
+    mend("sent_on", &designs::sent_on(255), 0);
+    mend("own_channels", &designs::own_channels(128), 0);
+    mend("received_on", &designs::received_on(254), 0);
+    mend("waves", &designs::waves(64, 128), 4);
+}
+
+/// The last name's row has the first eight bits, the others have none.
+fn one_full(files: Files) -> Files {
+    let last = files.names - 1;
+    designs::with_rows(files, |name| {
+        let mut row = [0; ROW];
+        row[0] = if name == last { 255 } else { 0 };
+        row
+    })
+}
+
 fn engine_case(loaded: &Loaded, call: Call) -> Case {
     let (array, lent) = (loaded.array.clone(), loaded.lent.clone());
     Case { array, table: vec![], choices: vec![0; 128], lent, call }
@@ -180,6 +227,7 @@ fn steps() {
 fn main() {
     checks();
     filters();
+    mendings();
     walks();
     steps();
 }

@@ -19,9 +19,10 @@ pub struct Measured<const V: usize> {
 fn restore(lent: &mut Lent, case: &Case) {
     lent.threads.copy_from_slice(&case.lent.threads);
     lent.markers.copy_from_slice(&case.lent.markers);
+    lent.output.copy_from_slice(&case.lent.output);
 }
 
-/// Versions take turns, one call each; the lists are restored before each call, outside its time.
+/// Versions take turns, one call each; lists and output are restored before each call, outside its time.
 pub fn measure<const V: usize>(case: &Case, versions: &[Version; V]) -> Measured<V> {
     let answer = agreed(case);
     let mut lent = case.lent.clone();

@@ -8,6 +8,7 @@ use outside::packed;
 pub enum Call {
     Read,
     Check,
+    Mend,
     Step { receiver: usize, sender: usize },
     Walk { allowed: u32 },
 }
@@ -24,6 +25,8 @@ pub struct Case {
 pub type Version = fn(&Case, &mut Lent) -> u64;
 
 pub const VERSIONS: [Version; 3] = [proved, plain, tuned::<NO_SETS>];
+/// Tuned has no mending.
+pub const BESIDE_PLAIN: [Version; 2] = [proved, plain];
 /// Proved and tuned, then tuned with a filter in its check.
 pub const FILTERED: [Version; 4] = [proved, tuned::<NO_SETS>, tuned::<BY_ARITY>, tuned::<BY_CHANNEL>];
 const EVERY: [Version; 5] = [proved, plain, tuned::<NO_SETS>, tuned::<BY_ARITY>, tuned::<BY_CHANNEL>];
@@ -41,6 +44,7 @@ fn proved(case: &Case, lent: &mut Lent) -> u64 {
     match case.call {
         Call::Read => handover::remark(&case.array) as u64,
         Call::Check => handover::check(&case.array, &case.table),
+        Call::Mend => handover::mend(&case.array, &case.table, &mut lent.output),
         Call::Step { receiver, sender } => handover::step(&case.array, &case.choices, lists(lent), receiver, sender),
         Call::Walk { allowed } => handover::walk(&case.array, &case.choices, lists(lent), allowed),
     }
@@ -50,6 +54,7 @@ fn tuned<const SETS: usize>(case: &Case, lent: &mut Lent) -> u64 {
     match case.call {
         Call::Read => tuned::remark(&case.array) as u64,
         Call::Check => tuned::check::<SETS>(&case.array, &case.table),
+        Call::Mend => unreachable!("tuned has no mending"),
         Call::Step { receiver, sender } => tuned::step(&case.array, &case.choices, lists(lent), receiver, sender),
         Call::Walk { allowed } => tuned::walk(&case.array, &case.choices, lists(lent), allowed),
     }
@@ -59,6 +64,7 @@ fn plain(case: &Case, lent: &mut Lent) -> u64 {
     match case.call {
         Call::Read => plain::remark(&case.array).len() as u64,
         Call::Check => packed::verdict(&plain::check(&case.array, &case.table)),
+        Call::Mend => packed::mended(plain::mend(&case.array, &case.table, &mut lent.output)),
         Call::Step { receiver, sender } => plain_step(case, lists(lent), receiver, sender),
         Call::Walk { allowed } => plain_walk(case, lists(lent), allowed),
     }
@@ -76,14 +82,28 @@ fn plain_walk(case: &Case, l: Lists, allowed: u32) -> u64 {
     packed::walked(plain::walk(array, choices, l.threads, threads, l.markers, markers, allowed))
 }
 
-/// The answer that every version gives, each on lists of its own. Panics if answers or words differ.
-pub fn agreed(case: &Case) -> u64 {
-    let mut lent = [(); EVERY.len()].map(|()| case.lent.clone());
-    let mut answers = [0; EVERY.len()];
-    for (k, version) in EVERY.iter().enumerate() {
-        answers[k] = version(case, &mut lent[k]);
+/// The versions that have the call.
+fn having(call: &Call) -> &'static [Version] {
+    match call {
+        Call::Mend => &BESIDE_PLAIN,
+        _ => &EVERY,
     }
+}
+
+/// The answer that every version gives, each on lists of its own. Panics if answers, words or output bytes differ.
+pub fn agreed(case: &Case) -> u64 {
+    left(case).0
+}
+
+/// The same, with what all versions leave.
+pub fn left(case: &Case) -> (u64, Lent) {
+    let of = |version: &Version| {
+        let mut lent = case.lent.clone();
+        (version(case, &mut lent), lent)
+    };
+    let mut all: Vec<(u64, Lent)> = having(&case.call).iter().map(of).collect();
+    let answers: Vec<u64> = all.iter().map(|(answer, _)| *answer).collect();
     assert!(answers.iter().all(|answer| *answer == answers[0]), "answers differ: {answers:x?}");
-    assert!(lent.iter().all(|words| *words == lent[0]), "words differ after {:x}", answers[0]);
-    answers[0]
+    assert!(all.iter().all(|(_, lent)| *lent == all[0].1), "words or bytes differ after {:x}", answers[0]);
+    all.swap_remove(0)
 }

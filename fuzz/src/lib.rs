@@ -1,7 +1,7 @@
 //! libFuzzer's entry. An input is read as two files and a list of calls; each call is made of the C entry and of the plain version, and the
-//! answers and every word of both lists must agree. A difference panics, which libFuzzer reports with the input.
+//! answers, every word of both lists and every byte of an output must agree. A difference panics, which libFuzzer reports with the input.
 //!
-//! An input: a byte of flags, then the array and the table, each with its length in two bytes, then the lengths of the thread list and the
+//! The table is checked, and mended into an output of its length and into one that lacks a byte. An input: a byte of flags, then the array and the table, each with its length in two bytes, then the lengths of the thread list and the
 //! marker list in two bytes each and a byte to fill them with, then calls. What an input lacks reads as zeros, so every input is one.
 
 mod calls;
@@ -15,6 +15,9 @@ const REPAIR_ARRAY: u8 = 1;
 const REPAIR_TABLE: u8 = 2;
 /// The claims are sorted, so that the rules are reached.
 const SORT_CLAIMS: u8 = 4;
+
+/// What an output holds before a mending.
+const FILL: u8 = 0x5a;
 
 /// # Safety
 /// `data` points at `length` bytes.
@@ -42,7 +45,19 @@ fn compare(mut input: Input) {
     }
     assert_eq!(handover::remark(&array), plain::remark(&array).len(), "the remark's length");
     assert_eq!(handover::check(&array, &table), packed::verdict(&plain::check(&array, &table)), "the verdict");
+    for length in [table.len(), table.len().saturating_sub(1)] {
+        mend(&array, &table, length);
+    }
     calls::compare(&array, input);
+}
+
+/// Mends into an output that has no room to spare.
+fn mend(array: &[u8], table: &[u8], length: usize) {
+    let mut output: Box<[u8]> = vec![FILL; length].into();
+    let mut other = output.clone();
+    let expected = packed::mended(plain::mend(array, table, &mut other));
+    assert_eq!(handover::mend(array, table, &mut output), expected, "the answer of mending");
+    assert!(output == other, "the output after mending");
 }
 
 /// Puts the claims in order, wherever the trailer has them lie. Repeats stay.

@@ -129,6 +129,18 @@ pub fn line(random: &mut Random, agents: usize) -> ArrayFile {
     ArrayFile { remark: Vec::new(), records, names: 1 }
 }
 
+/// 128 news, of which each is sent to all of 128 parameters on the first one.
+pub fn flooded() -> ArrayFile {
+    let half = MOST_NAMES / 2;
+    let agent = |kind, arguments: Vec<usize>| Record { kind, arguments, ..Record::default() };
+    let mut records: Vec<Record> = (0..half).map(|name| Record { name, ..node(NEW, 0, 0) }).collect();
+    records.extend((0..half / 8).map(|i| agent(IN, (0..8).map(|k| half + 8 * i + k).collect())));
+    records.extend((0..half).map(|i| agent(OUT, (0..8).map(|k| (i + k) % half).collect())));
+    records.iter_mut().enumerate().for_each(|(i, record)| record.left = i + 1);
+    records.push(node(STOP, 0, 0));
+    ArrayFile { remark: Vec::new(), records, names: MOST_NAMES }
+}
+
 fn node(kind: u8, left: usize, right: usize) -> Record {
     Record { kind, left, right, ..Record::default() }
 }

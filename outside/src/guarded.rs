@@ -88,8 +88,8 @@ fn pointer(bytes: &[u8]) -> *const u8 {
     }
 }
 
-/// The answers of check, start, step, walk and remark with NULL lists and NULL for every empty buffer.
-pub fn null_answers(array: &[u8], second: &[u8], count: usize, position: usize) -> [u64; 5] {
+/// The answers of check, start, step, walk, mend and remark with NULL lists and NULL for every empty buffer.
+pub fn null_answers(array: &[u8], second: &[u8], count: usize, position: usize) -> [u64; 6] {
     let (a, n, b, m) = (pointer(array), array.len(), pointer(second), second.len());
     let (threads, markers) = (null_mut(), null_mut());
     // SAFETY: lengths are those of the slices; the lists have length 0.
@@ -99,6 +99,7 @@ pub fn null_answers(array: &[u8], second: &[u8], count: usize, position: usize) 
             c::handover_start(a, n, b, m, threads, 0),
             c::handover_step(a, n, b, m, threads, 0, count, markers, 0, count, position, position),
             c::handover_walk(a, n, b, m, threads, 0, count, markers, 0, count, position as u32),
+            c::handover_mend(a, n, b, m, null_mut(), 0),
             c::handover_remark(a, n) as u64,
         ]
     }

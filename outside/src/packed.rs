@@ -13,6 +13,10 @@ pub fn verdict(verdict: &Verdict) -> u64 {
     }
 }
 
+pub fn mended(result: Result<usize, Refusal>) -> u64 {
+    result.map_or_else(|refusal| refused(&refusal), |bits| (bits as u64) << 8)
+}
+
 pub fn started(result: Result<usize, Refusal>) -> u64 {
     result.map_or_else(|refusal| refused(&refusal), |threads| counts(Counts { threads, markers: 0 }))
 }

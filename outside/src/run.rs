@@ -7,7 +7,7 @@ use crate::files::TableFile;
 use crate::guarded::{Region, Side};
 use crate::lists::Lists;
 use crate::random::Random;
-use crate::tally::{Tally, CHECK, START, STEP, WALK};
+use crate::tally::{Tally, CHECK, MEND, START, STEP, WALK};
 use crate::watch::{begin_call, begin_round, fail, hex};
 use crate::{order, packed, sets};
 
@@ -107,6 +107,28 @@ impl Run {
             sets::count(&mut self.tally, code, place, &table);
             order::count(&mut self.tally, code, place, &table.claims);
         }
+    }
+
+    /// Mends a table. The answer and every byte of the output are compared; the output is then what the call left.
+    pub fn mend(&mut self, array: &[u8], table: &[u8], output: &mut Vec<u8>) -> u64 {
+        begin_call();
+        let mut after = output.clone();
+        let expected = packed::mended(plain::mend(array, table, &mut after));
+        let sides = self.sides();
+        let [first, second, third, _] = &mut self.regions;
+        let (lent_array, lent_table) = (first.place(array, sides[0]), second.place(table, sides[1]));
+        let lent_output = third.place(output, sides[2]);
+        let answer = handover::mend(lent_array, lent_table, lent_output);
+        let same_bytes = *lent_output == *after;
+        if answer != expected || !same_bytes || lent_array != array || lent_table != table {
+            let what = format!("mend gives {answer:#x}, plain {expected:#x}; same bytes: {same_bytes}");
+            let files = [("array", hex(array.to_vec())), ("table", hex(table.to_vec()))];
+            let outputs = [("output", hex(output.clone())), ("left", hex(lent_output.to_vec()))];
+            fail(&what, &[files, outputs].concat());
+        }
+        self.tally.add(MEND, answer);
+        *output = after;
+        answer
     }
 
     pub fn remark(&mut self, array: &[u8]) {

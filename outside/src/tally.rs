@@ -4,17 +4,18 @@ use std::collections::BTreeMap;
 
 use crate::together;
 
-pub const ENTRIES: [&str; 4] = ["check", "start", "step", "walk"];
+pub const ENTRIES: [&str; 5] = ["check", "start", "step", "walk", "mend"];
 pub const CHECK: usize = 0;
 pub const START: usize = 1;
 pub const STEP: usize = 2;
 pub const WALK: usize = 3;
-const REFUSALS: usize = 31;
+pub const MEND: usize = 4;
+const REFUSALS: usize = 32;
 /// The refusals that name a place.
 const PLACED: [usize; 12] = [6, 7, 8, 9, 10, 11, 12, 19, 20, 21, 30, 31];
 
 /// Further counts, none of which may stay 0.
-const OTHERS: [&str; 48] = [
+const OTHERS: [&str; 80] = [
     "longest arrays",
     "longest tables",
     "held with a set of two agents",
@@ -63,6 +64,38 @@ const OTHERS: [&str; 48] = [
     "broken by a claim: not accepted",
     "broken by a set's most: not accepted",
     "broken by a set's sum alone: not accepted",
+    "mending, rows as they came",
+    "mending, rows that lost some bits",
+    "mending, rows with one emptied",
+    "mending, rows all emptied",
+    "mending, rows that got some bits",
+    "mending, rows that lost some bits and got some",
+    "mending, none missing",
+    "mending, bits set",
+    "mending, bits of rule 1 alone",
+    "mending, more rounds than one",
+    "mending, more rounds than 200",
+    "mending, tangled, more rounds than ten",
+    "mending, 16,512 bits, the most",
+    "mending, a given bit is passed on",
+    "mending, a pair lives by bits that were set",
+    "mending, a balance keeps a pair from living",
+    "mending, accepted before and after",
+    "mending, accepted after alone",
+    "mending, rule 2 after",
+    "mending, rule 4 after",
+    "mending, rule 4 after by a pair that lives since",
+    "mending, rule 5 after",
+    "mending, one bit less breaks rule 1",
+    "mending, one bit less breaks rule 3",
+    "mending, output just as long",
+    "mending, output longer",
+    "32 by one byte",
+    "32 without output",
+    "32 where no bit is missing",
+    "32 where bits are missing",
+    "mending, a refusal before 32",
+    "mending, longest tables",
 ];
 
 #[derive(Clone, Copy, Default)]
@@ -83,12 +116,13 @@ pub struct Share {
 #[derive(Default)]
 pub struct Tally {
     pub cases: u64,
-    refused: [[Refused; REFUSALS + 1]; 4],
+    /// By entry and number.
+    refused: BTreeMap<(usize, usize), Refused>,
     /// Held, then rules 1 to 5; and those whose last figure is above the least.
     verdicts: [u64; 6],
     later: [u64; 6],
-    /// Starts and steps that were made.
-    made: [u64; 4],
+    /// Starts, steps and mendings that were made.
+    made: [u64; 5],
     /// Quiet, spent, full.
     endings: [u64; 3],
     /// Remarks read, by whether they are empty.
@@ -107,6 +141,7 @@ fn uses(entry: usize, number: usize) -> bool {
         CHECK => number <= 21 || number == 30 || number == 31,
         START => number <= 12 || number == 22 || number == 28,
         STEP => number <= 12 || (22..=29).contains(&number),
+        MEND => number <= 21 || (30..=32).contains(&number),
         _ => number <= 12 || number == 22 || number == 23,
     }
 }
@@ -116,7 +151,7 @@ impl Tally {
         self.cases += 1;
         match handover::refusal(answer) {
             Some(number) => {
-                let refused = &mut self.refused[entry][usize::from(number).min(REFUSALS)];
+                let refused = self.refused.entry((entry, number.into())).or_default();
                 refused.count += 1;
                 refused.placed += u64::from(answer >> 8 != 0);
             }
@@ -163,9 +198,11 @@ impl Tally {
         println!("refusals: count, and of these with a place other than 0 where a place is named");
         println!("{:>8}{}", "number", ENTRIES.map(|entry| format!("{entry:>18}")).concat());
         for number in 1..=REFUSALS {
-            let cells = [CHECK, START, STEP, WALK].map(|entry| self.cell(entry, number, &mut wrong));
+            let cells = [CHECK, START, STEP, WALK, MEND].map(|entry| self.cell(entry, number, &mut wrong));
             println!("{number:>8}{}", cells.concat());
         }
+        let unknown = self.refused.keys().filter(|(_, number)| !(1..=REFUSALS).contains(number));
+        wrong.extend(unknown.map(|(entry, number)| format!("{} gave refusal {number}", ENTRIES[*entry])));
         self.print_answers(&mut wrong);
         self.print_sorts(&mut wrong);
         for (name, share) in ["accepted", "nearly accepted", "broken"].iter().zip(&self.shares) {
@@ -177,7 +214,7 @@ impl Tally {
 
     /// One refusal of one entry.
     fn cell(&self, entry: usize, number: usize, wrong: &mut Vec<String>) -> String {
-        let Refused { count, placed } = self.refused[entry][number];
+        let Refused { count, placed } = self.refused.get(&(entry, number)).copied().unwrap_or_default();
         let named = PLACED.contains(&number);
         let name = ENTRIES[entry];
         if !uses(entry, number) {
@@ -208,7 +245,8 @@ impl Tally {
         ];
         counts.extend(later.into_iter().zip(self.later.into_iter().skip(1)));
         counts.extend(["quiet", "spent", "full"].into_iter().zip(self.endings));
-        counts.extend([("starts made", self.made[START]), ("steps made", self.made[STEP])]);
+        let made = [("starts made", START), ("steps made", STEP), ("tables mended", MEND)];
+        counts.extend(made.map(|(what, entry)| (what, self.made[entry])));
         counts.extend(["remarks, empty or of a refused file", "remarks, not empty"].into_iter().zip(self.remarks));
         counts.extend(OTHERS.map(|name| (name, self.others.get(name).copied().unwrap_or(0))));
         for (name, count) in counts {

@@ -5,6 +5,14 @@
 pub mod c {
     extern "C" {
         pub fn handover_check(array: *const u8, array_len: usize, table: *const u8, table_len: usize) -> u64;
+        pub fn handover_mend(
+            array: *const u8,
+            array_len: usize,
+            table: *const u8,
+            table_len: usize,
+            output: *mut u8,
+            output_len: usize,
+        ) -> u64;
         pub fn handover_start(
             array: *const u8,
             array_len: usize,
@@ -54,6 +62,13 @@ pub struct Lists<'a> {
 
 pub fn check(array: &[u8], table: &[u8]) -> u64 {
     unsafe { c::handover_check(array.as_ptr(), array.len(), table.as_ptr(), table.len()) }
+}
+
+/// The mended table is written to the start of the output.
+pub fn mend(array: &[u8], table: &[u8], output: &mut [u8]) -> u64 {
+    unsafe {
+        c::handover_mend(array.as_ptr(), array.len(), table.as_ptr(), table.len(), output.as_mut_ptr(), output.len())
+    }
 }
 
 pub fn start(array: &[u8], choices: &[u8], threads: &mut [u32]) -> u64 {
@@ -111,7 +126,7 @@ pub fn remark(array: &[u8]) -> usize {
     unsafe { c::handover_remark(array.as_ptr(), array.len()) }
 }
 
-/// The low 8 bits: 0 for held, done or quiet; a rule's number or 1 spent, 2 full; 100 + a refusal's number.
+/// The low 8 bits: 0 for held, mended, done or quiet; a rule's number or 1 spent, 2 full; 100 + a refusal's number.
 pub fn code(answer: u64) -> u8 {
     (answer % 256) as u8
 }
@@ -124,6 +139,11 @@ pub fn refusal(answer: u64) -> Option<u8> {
 /// The three figures of the place in an answer of `check`.
 pub fn figures(answer: u64) -> [u64; 3] {
     [answer >> 8 & 0xffff, answer >> 24 & 0xffff, answer >> 40]
+}
+
+/// The number of bits set in an answer of `mend` that is no refusal.
+pub fn bits(answer: u64) -> usize {
+    (answer >> 8) as usize
 }
 
 /// Threads, markers and steps made in an answer of `start`, `step` or `walk` that is no refusal.

@@ -147,12 +147,12 @@ fn sets_clear(unions: &[u64], arities: &[u64], rows: &[u64], p: Side) -> bool
         × ((g : ℕ) → g < 12 → ArgRows (now unions) (now rows) g (p .node)) ⌝ }
     ensures { λ b. ⌜ b ≡ every 12 (setClear (now (unions .entry)) (now (arities .entry)) (now (rows .entry)) p) ⌝ }
 {
-    let mut g: usize = 0;
-    while g < 12 {
-        if !set_clear(unions, arities, rows, g, p) {
+    let mut n: usize = 0;
+    while n < 12 {
+        if !set_clear(unions, arities, rows, n, p) {
             return false;
         }
-        g += 1;
+        n += 1;
     }
     true
 }

@@ -1,10 +1,11 @@
 //! Writes the corpus that the fuzzer starts from: the examples, the stored pairs of files, the stored arrays, random arrays
 //! with accepted, nearly accepted and broken tables, tables with sets, by what is answered, tables of 256 claims, in
-//! order and not, and tables for many senders. Each comes with some calls. Argument: the folder.
+//! order and not, tables for many senders, and tables that lack bits. Each comes with some calls. Argument: the folder.
 
-use outside::files::TableFile;
+use outside::files::{ArrayFile, TableFile};
+use outside::mended::Smallest;
 use outside::random::Random;
-use outside::{arrays, balanced, changes, damage, many_senders, parts, sets, tables};
+use outside::{arrays, balanced, changes, damage, many_senders, parts, sets, tables, tangled, thinned, travels};
 use plain::Verdict;
 use std::fs;
 use std::io;
@@ -18,6 +19,7 @@ const RANDOM: u64 = 300;
 const OF_EACH_SORT: usize = 25;
 const CROWDED: u64 = 15;
 const MANY_SENDERS: usize = 30;
+const MENDING: usize = 60;
 
 type Pair = (String, Vec<u8>, Vec<u8>);
 
@@ -125,6 +127,33 @@ fn random_senders(round: u64) -> Pair {
     (format!("senders-{round}"), file, table.bytes())
 }
 
+/// A random array, one in which bits take many ways, or a design in which they travel; each with a table.
+fn for_mending(random: &mut Random) -> (ArrayFile, TableFile) {
+    if random.once_in(3) {
+        let travel = travels::any(random, 8);
+        return (travel.array, travel.table);
+    }
+    let make = random.pick(&[arrays::busy, tangled::array]);
+    let draft = random.pick(&[tables::accepted, tangled::table]);
+    let file = make(random);
+    let table = draft(random, &parts::read(&file.bytes()));
+    (file, table)
+}
+
+/// Rows that lost bits or got some, also from where none is missing.
+fn random_mending(round: u64) -> Pair {
+    let mut random = Random::of(5, 0, round);
+    let (file, mut table) = for_mending(&mut random);
+    let bytes = file.bytes();
+    let array = parts::read(&bytes);
+    table.array_sum = array.sum();
+    if random.once_in(2) {
+        table.rows = Smallest::of(&array, &table).rows;
+    }
+    thinned::change(&mut random, &array, &mut table.rows);
+    (format!("mending-{round}"), bytes, table.bytes())
+}
+
 /// Held; broken by a set whose first claim would hold alone; refused by 30; by 31.
 fn has_sort(sort: usize, pair: &Pair) -> bool {
     match plain::check(&pair.1, &pair.2) {
@@ -153,8 +182,9 @@ fn main() -> io::Result<()> {
         files_in(&root.join("crates/inspect/data"))?.into_iter().map(|(name, array)| (name, array, Vec::new()));
     let files = examples(&root)?.into_iter().chain(stored(&root)?).chain(arrays);
     let senders = (0..).map(random_senders).filter(is_small).take(MANY_SENDERS);
-    let pairs =
-        files.chain((0..RANDOM).map(random)).chain(of_each_sort()).chain((0..CROWDED).map(crowded)).chain(senders);
+    let mending = (0..).map(random_mending).filter(is_small).take(MENDING);
+    let drafts = (0..RANDOM).map(random).chain(of_each_sort()).chain((0..CROWDED).map(crowded));
+    let pairs = files.chain(drafts).chain(senders).chain(mending);
     for (name, array, table) in pairs.filter(is_small) {
         fs::write(Path::new(&folder).join(name), seed(&array, &table))?;
     }

@@ -3,6 +3,7 @@
 use crate::lists::{Lists, Room};
 use crate::parts::{read, some_choices};
 use crate::run::{Call, Run, Setting};
+use crate::watch::{fail, hex};
 use crate::{arrays, damage, files, tables};
 
 const ARRAY_FAULTS: [u8; 12] = [1, 2, 3, 4, 5, 6, 7, 8, 9, 10, 11, 12];
@@ -50,6 +51,44 @@ pub fn tables(run: &mut Run) {
     }
 }
 
+/// One or two faults in an array file or in a table file, now and then in both; outputs of any length.
+pub fn mending(run: &mut Run) {
+    let file = some_array(run);
+    let (mut array, table) = (file.bytes(), tables::accepted(&mut run.random, &read(&file.bytes())));
+    let mut bytes = table.bytes();
+    let which = run.random.below(8);
+    if which < 4 {
+        let faults = two(run, &ARRAY_FAULTS);
+        array = damage::array(&mut run.random, &file, &faults);
+    }
+    if which >= 3 {
+        let faults = two(run, &TABLE_FAULTS);
+        bytes = damage::table(&mut run.random, &table, &faults);
+    }
+    let lengths = [bytes.len(), bytes.len() + 5, bytes.len().saturating_sub(1), 0];
+    let length = run.random.pick(&lengths);
+    mend(run, &array, &bytes, length);
+}
+
+/// Mends into an output of noise. What `check` refuses is refused alike, before 32, and the noise stays.
+fn mend(run: &mut Run, array: &[u8], table: &[u8], length: usize) {
+    let noise = run.random.bytes(length);
+    let mut output = noise.clone();
+    let answer = run.mend(array, table, &mut output);
+    let checked = handover::check(array, table);
+    let (refused, short) = (handover::refusal(checked).is_some(), length < table.len());
+    let right = match (refused, short) {
+        (true, _) => answer == checked && output == noise,
+        (false, true) => answer == 132 && output == noise,
+        (false, false) => handover::code(answer) == 0,
+    };
+    if !right {
+        let files = [("array", hex(array.to_vec())), ("table", hex(table.to_vec()))];
+        fail(&format!("check gives {checked:#x}, mend {answer:#x} into {length} bytes"), &files);
+    }
+    run.tally.other("mending, a refusal before 32", u64::from(refused && short));
+}
+
 /// Large ones now and then, as places above 255 lie only there.
 fn some_array(run: &mut Run) -> files::ArrayFile {
     if run.random.once_in(500) {
@@ -64,15 +103,20 @@ fn two(run: &mut Run, faults: &[u8]) -> Vec<u8> {
     (0..count).map(|_| run.random.pick(faults)).collect()
 }
 
-/// Every byte of two small files changed, with the old and with the new word sum, and every length below the file's.
-pub fn every_byte(run: &mut Run) {
-    let (array, table) = loop {
+/// Two small files that belong together.
+fn small_files(run: &mut Run) -> (Vec<u8>, Vec<u8>) {
+    loop {
         let array = arrays::small(&mut run.random).bytes();
         let table = tables::accepted(&mut run.random, &read(&array)).bytes();
         if array.len() <= 300 && table.len() <= 600 {
-            break (array, table);
+            return (array, table);
         }
-    };
+    }
+}
+
+/// Every byte of two small files changed, with the old and with the new word sum, and every length below the file's.
+pub fn every_byte(run: &mut Run) {
+    let (array, table) = small_files(run);
     for at in 0..array.len() {
         let mut changed = array.clone();
         changed[at] ^= run.random.between(1, 255) as u8;
@@ -89,5 +133,29 @@ pub fn every_byte(run: &mut Run) {
         files::repair(&mut changed);
         run.check(&array, &changed);
         run.check(&array, &table[..at]);
+    }
+}
+
+/// The same for mending, and every length of the output up to the table's and one more.
+pub fn every_byte_mended(run: &mut Run) {
+    let (array, table) = small_files(run);
+    for at in 0..array.len() {
+        let mut changed = array.clone();
+        changed[at] ^= run.random.between(1, 255) as u8;
+        mend(run, &changed, &table, table.len());
+        files::repair(&mut changed);
+        mend(run, &changed, &table, table.len());
+        mend(run, &array[..at], &table, table.len());
+    }
+    for at in 0..table.len() {
+        let mut changed = table.clone();
+        changed[at] ^= run.random.between(1, 255) as u8;
+        mend(run, &array, &changed, table.len());
+        files::repair(&mut changed);
+        mend(run, &array, &changed, table.len());
+        mend(run, &array, &table[..at], table.len());
+    }
+    for length in 0..=table.len() + 1 {
+        mend(run, &array, &table, length);
     }
 }

@@ -96,6 +96,7 @@ pub fn null(run: &mut Run) {
         packed::started(plain::start(&file, &second, t)),
         packed::stepped(plain::step(&file, &second, t, count, m, count, position, position)),
         packed::walked(plain::walk(&file, &second, t, count, m, count, position as u32)),
+        packed::mended(plain::mend(&file, &second, &mut [])),
         plain::remark(&file).len() as u64,
     ];
     let answers = null_answers(&file, &second, count, position);
@@ -103,8 +104,8 @@ pub fn null(run: &mut Run) {
         let inputs = [("array", hex(file)), ("second", hex(second)), ("count", count.to_string())];
         fail(&format!("with NULL: {answers:x?}, plain {expected:x?}"), &inputs);
     }
-    for (entry, answer) in answers.into_iter().take(4).enumerate() {
+    for (entry, answer) in answers.into_iter().take(5).enumerate() {
         run.tally.add(entry, answer);
     }
-    run.tally.other("calls with NULL", 5);
+    run.tally.other("calls with NULL", 6);
 }

@@ -4,6 +4,7 @@ mod damaged;
 mod demand3;
 mod engine;
 mod limits;
+mod mending;
 mod mirror;
 mod orders;
 mod senders;
@@ -25,7 +26,7 @@ const fn part(name: &'static str, rounds: u64, round: fn(&mut Run)) -> Part {
     Part { name, rounds, round }
 }
 
-pub const PARTS: [Part; 17] = [
+pub const PARTS: [Part; 25] = [
     part("verdicts on small arrays", 30_000, verdicts::small),
     part("verdicts on large arrays", 50, verdicts::large),
     part("damaged arrays", 60_000, damaged::arrays),
@@ -43,6 +44,14 @@ pub const PARTS: [Part; 17] = [
     part("claims in other orders", 20_000, orders::orders),
     part("256 claims", 600, verdicts::crowded),
     part("many senders", 1_000, senders::senders),
+    part("mending on small arrays", 30_000, mending::small),
+    part("mending on large arrays", 60, mending::large),
+    part("mending, many senders", 1_000, mending::senders),
+    part("mending, tangled ways", 2_000, mending::tangled),
+    part("mending, bits that travel", 150, mending::travels),
+    part("mending, the most bits", 1, mending::most_bits),
+    part("mending of damaged files", 40_000, damaged::mending),
+    part("mending, every byte and length", 60, damaged::every_byte_mended),
 ];
 
 /// Reads what a generator of valid arrays made.

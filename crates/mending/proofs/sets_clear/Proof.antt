@@ -13,10 +13,10 @@ use Rattle.mending.proofs.sets_clear.Statement.{statement}
 use Rattle.mending.proofs.sets_clear.Tie as tie
 
 abbrev Inv-loop : tie.InvT-loop
-Inv-loop unions arities rows p g₀ g = (g ≤ 12) × (every g (setClear unions arities rows p) ≡ true)
+Inv-loop unions arities rows p n₀ n = (n ≤ 12) × (every n (setClear unions arities rows p) ≡ true)
 
 abbrev μ-loop : tie.MeasureT-loop
-μ-loop unions arities rows p g₀ g = 12 - g
+μ-loop unions arities rows p n₀ n = 12 - n
 
 loop-holds : tie.Need-loop-holds Inv-loop μ-loop
 loop-holds c = (search needs, every-zero _)
@@ -31,7 +31,7 @@ returns : tie.Need-returns Inv-loop μ-loop
 returns c =
     let x = c .before .before .before .before .before .before .before .args in
     let f = setClear (now (x .unions)) (now (x .arities)) (now (x .rows)) (x .p) in
-    sym (false-every 12 f (c .before .before .before .loop .g) (c .before .before .loop-test .taken)
+    sym (false-every 12 f (c .before .before .before .loop .n) (c .before .before .loop-test .taken)
     (sym (c .before .set-clear .ensures) ∙ not-true _ (c .if1 .taken)))
 
 loop-again : tie.Need-loop-again Inv-loop μ-loop
@@ -39,12 +39,12 @@ loop-again c =
     let x = c .before .before .before .before .before .before .before .args in
     let l = c .before .before .before .loop in
     let f = setClear (now (x .unions)) (now (x .arities)) (now (x .rows)) (x .p) in
-    (search needs, every-pass f (l .g) (l .inv .1) (sym (c .before .set-clear .ensures) ∙ not-false _ (c .if1 .left)))
+    (search needs, every-pass f (l .n) (l .inv .1) (sym (c .before .set-clear .ensures) ∙ not-false _ (c .if1 .left)))
 
 returns-2 : tie.Need-returns-2 Inv-loop μ-loop
 returns-2 c =
     let l = c .before .loop in
-    let e : l .g ≡ 12 = omega (arith, l .inv .0, c .loop-test .left) in
+    let e : l .n ≡ 12 = omega (arith, l .inv .0, c .loop-test .left) in
     sym (rw e at (l .inv .1))
 
 pub sets-clear-spec : {M : Type 1} → statement M
