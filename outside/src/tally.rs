@@ -2,7 +2,7 @@
 
 use std::collections::BTreeMap;
 
-use crate::together;
+use crate::{thinned, together};
 
 pub const ENTRIES: [&str; 5] = ["check", "start", "step", "walk", "mend"];
 pub const CHECK: usize = 0;
@@ -14,8 +14,8 @@ const REFUSALS: usize = 32;
 /// The refusals that name a place.
 const PLACED: [usize; 12] = [6, 7, 8, 9, 10, 11, 12, 19, 20, 21, 30, 31];
 
-/// Further counts, none of which may stay 0.
-const OTHERS: [&str; 80] = [
+/// Further counts. None may stay 0.
+const OTHERS: [&str; 74] = [
     "longest arrays",
     "longest tables",
     "held with a set of two agents",
@@ -64,12 +64,6 @@ const OTHERS: [&str; 80] = [
     "broken by a claim: not accepted",
     "broken by a set's most: not accepted",
     "broken by a set's sum alone: not accepted",
-    "mending, rows as they came",
-    "mending, rows that lost some bits",
-    "mending, rows with one emptied",
-    "mending, rows all emptied",
-    "mending, rows that got some bits",
-    "mending, rows that lost some bits and got some",
     "mending, none missing",
     "mending, bits set",
     "mending, bits of rule 1 alone",
@@ -97,6 +91,11 @@ const OTHERS: [&str; 80] = [
     "mending, a refusal before 32",
     "mending, longest tables",
 ];
+
+/// The further counts, with those of what was done to the rows that are mended.
+fn others() -> impl Iterator<Item = &'static str> {
+    OTHERS.into_iter().chain(thinned::SORTS)
+}
 
 #[derive(Clone, Copy, Default)]
 struct Refused {
@@ -129,7 +128,7 @@ pub struct Tally {
     pub remarks: [u64; 2],
     /// Tables meant to be accepted, nearly accepted, broken.
     pub shares: [Share; 3],
-    /// The counts named in `OTHERS`.
+    /// The counts that `others` names.
     others: BTreeMap<&'static str, u64>,
     /// The counts named in `together`.
     sorts: BTreeMap<String, u64>,
@@ -183,7 +182,7 @@ impl Tally {
     }
 
     pub fn other(&mut self, what: &'static str, more: u64) {
-        assert!(OTHERS.contains(&what), "no count of the list: {what}");
+        assert!(others().any(|name| name == what), "no count of the list: {what}");
         *self.others.entry(what).or_default() += more;
     }
 
@@ -248,7 +247,7 @@ impl Tally {
         let made = [("starts made", START), ("steps made", STEP), ("tables mended", MEND)];
         counts.extend(made.map(|(what, entry)| (what, self.made[entry])));
         counts.extend(["remarks, empty or of a refused file", "remarks, not empty"].into_iter().zip(self.remarks));
-        counts.extend(OTHERS.map(|name| (name, self.others.get(name).copied().unwrap_or(0))));
+        counts.extend(others().map(|name| (name, self.others.get(name).copied().unwrap_or(0))));
         for (name, count) in counts {
             println!("{name}: {count}");
             if count == 0 {

@@ -7,7 +7,7 @@ use crate::random::Random;
 use crate::tables::Rows;
 
 /// Counts by what was done.
-const SORTS: [&str; 6] = [
+pub const SORTS: [&str; 6] = [
     "mending, rows as they came",
     "mending, rows that lost some bits",
     "mending, rows with one emptied",

@@ -1,11 +1,11 @@
 -- What a row holds after a mark, two rows word by word, and the rows of a file.
-use Prim.Native.Nat.{ℕ, _+_, _*_, _/_, _%_, _^_, _≤_, _<_}
+use Prim.Native.Nat.{ℕ, zero, suc, _+_, _*_, _/_, _%_, _^_, _≤_, _<_}
 use native.Mathlib.Nat.{zero-add}
 use native.Mathlib.Omega.{arith}
 use mathlib.Core.Path.{_≡_, refl, sym, ap, ap₂, _∙_}
 use mathlib.Core.Logic.{_⊎_, inl, inr, ⊎-elim}
 use mathlib.Core.Bool.{Bool, true, false, cond, not, _&&_, _||_, and-false, or-false}
-use mathlib.Core.List.{List}
+use mathlib.Core.List.{List, [], _∷_}
 use lib.Bits.{bitOr}
 use lib.Dec.{eqb, ltb}
 use lib.ListN.{length, getD, replicate, length-set, List·getD-eq-default}
@@ -18,7 +18,7 @@ use Rattle.laws.proofs.Lists.{getD-set, getD-zeros}
 use Rattle.laws.proofs.Bits.{bit-zero, bit-pow, bit-or}
 use Rattle.wire.specs.Numbers.{u64At}
 use Rattle.wire.proofs.Laws.{bit-u64}
-use Rattle.marks.specs.Marks.{wordAt, HasRow, marked, markIf, wordsShare, wordInside, share, inside, joinWord, Joined}
+use Rattle.marks.specs.Marks.{wordAt, HasRow, marked, markIf, wordsShare, wordInside, share, inside, Copied, joinWord, Joined}
 
 -- two names in the same word of a row
 same-place : (u v : ℕ) → u / 64 ≡ v / 64 → eqb (u % 64) (v % 64) ≡ eqb u v
@@ -113,6 +113,21 @@ marked-bytes s rows n byte word v o h l =
     ∙ bit-u64 s byte (8 * (4 * v + o / 64)) (o % 64) (omega arith)
     ∙ ap₂ (λ (x y : ℕ). bit (getD s x 0) y) q r
 
+-- four words of a row are a row
+row-word : (rows : List ℕ) (v : ℕ) (a b c d : ℕ) → a ≡ getD rows (wordAt v 0) 0 → b ≡ getD rows (wordAt v 1) 0 → c ≡ getD rows (wordAt v 2) 0
+    → d ≡ getD rows (wordAt v 3) 0 → (j : ℕ) → j < 4 → getD (a ∷ b ∷ c ∷ d ∷ []) (wordAt 0 j) 0 ≡ getD rows (wordAt v j) 0
+row-word rows v a b c d ea eb ec ed zero h = ea
+row-word rows v a b c d ea eb ec ed (suc zero) h = eb
+row-word rows v a b c d ea eb ec ed (suc (suc zero)) h = ec
+row-word rows v a b c d ea eb ec ed (suc (suc (suc zero))) h = ed
+row-word rows v a b c d ea eb ec ed (suc (suc (suc (suc j)))) h = absurd (omega (arith, h))
+
+pub row-copied : (rows : List ℕ) (v : ℕ) (a b c d : ℕ) → a ≡ getD rows (wordAt v 0) 0 → b ≡ getD rows (wordAt v 1) 0 → c ≡ getD rows (wordAt v 2) 0
+    → d ≡ getD rows (wordAt v 3) 0 → Copied rows v (a ∷ b ∷ c ∷ d ∷ [])
+unfolding marked
+row-copied rows v a b c d ea eb ec ed o h =
+    ap (λ (x : ℕ). bit x (o % 64)) (row-word rows v a b c d ea eb ec ed (o / 64) (omega arith))
+
 -- ---- a row with the marks of another
 
 -- what a row holds when the words below w are joined
@@ -178,9 +193,10 @@ module _ (s : List ℕ) (u : ℕ) (t : List ℕ) (v w : ℕ) (fits : HasRow s u)
           ⊎-elim (λ a. or-left _ _ a) (λ a. or-right (ltb o (64 * w)) _ (let c = ltb-false o (64 * w) a in eq-eqb (o / 64) w (omega arith)))
           (decided (ltb o (64 * w))))
 
-pub join-done : (before after : List ℕ) (u : ℕ) (t : List ℕ) (v : ℕ) → Joining before after u t v 4 → Joined before after u t v
-join-done before after u t v j = record {
-  rows = λ x o h. j .0 x o h ∙ ap (λ (b : Bool). marked before x o || (eqb x u && (b && marked t v o))) (lt-ltb o 256 h);
+-- all words, of a copy of the row
+pub join-done : (before after : List ℕ) (u : ℕ) (row t : List ℕ) (v : ℕ) → Copied t v row → Joining before after u row 0 4 → Joined before after u t v
+join-done before after u row t v copied j = record {
+  rows = λ x o h. j .0 x o h ∙ ap₂ (λ (b m : Bool). marked before x o || (eqb x u && (b && m))) (lt-ltb o 256 h) (copied o h);
   size = j .1;
 }
 

@@ -40,6 +40,10 @@ share s u t v = any 256 λ o. marked s u o && marked t v o
 unfoldable pub inside : List ℕ → ℕ → List ℕ → ℕ → Bool
 inside s u t v = every 256 λ o. not (marked s u o) || marked t v o
 
+-- row 0 of a list has the marks of row u of another
+abbrev pub Copied : List ℕ → ℕ → List ℕ → Type 0
+Copied rows u row = (o : ℕ) → o < 256 → marked row 0 o ≡ marked rows u o
+
 -- word w of row u with the bits of word w of row v of another list
 abbrev pub joinWord : List ℕ → ℕ → List ℕ → ℕ → ℕ → List ℕ
 joinWord s u t v w = set s (wordAt u w) (bitOr (getD s (wordAt u w) 0) (getD t (wordAt v w) 0))

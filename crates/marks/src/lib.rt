@@ -3,7 +3,7 @@
 ghost use mathlib.Core.Path.{_≡_};
 ghost use Prim.Native.Nat.{_/_, _<_};
 ghost use lib.ListN.{length, getD, set};
-ghost use Rattle.marks.specs.Marks.{wordAt, HasRow, marked, markIf, wordsShare, wordInside, share, inside, joinWord, Joined};
+ghost use Rattle.marks.specs.Marks.{wordAt, HasRow, marked, markIf, wordsShare, wordInside, share, inside, Copied, joinWord, Joined};
 
 // Where word w of row u stands.
 fn index_of(u: usize, w: usize) -> usize
@@ -100,14 +100,29 @@ fn join_word(one: &mut [u64], u: usize, other: &[u64], v: usize, w: usize)
     set_word(one, u, w, x | y);
 }
 
-// Row u of one list has the marks of row v of the other, beside its own.
+// Row u, alone.
+pub fn row_at(rows: &[u64], u: usize) -> [u64; 4]
+    requires { ⌜ HasRow (now rows) u ⌝ }
+    ensures { λ r. ⌜ Copied (now (rows .entry)) u r ⌝ }
+{
+    [
+        word_at(rows, u, 0),
+        word_at(rows, u, 1),
+        word_at(rows, u, 2),
+        word_at(rows, u, 3),
+    ]
+}
+
+// Row u of one list has the marks of row v of the other, beside its own. Row v is read before a word is written, so that a machine joins several words
+// at once.
 pub fn join(one: &mut [u64], u: usize, other: &[u64], v: usize)
     requires { ⌜ HasRow (now one) u × HasRow (now other) v ⌝ }
     ensures { λ _. ⌜ Joined (now (one .entry)) (now (one .exit)) u (now (other .entry)) v ⌝ }
 {
+    let row = row_at(other, v);
     let mut w: usize = 0;
     while w < 4 {
-        join_word(one, u, other, v, w);
+        join_word(one, u, &row, 0, w);
         w += 1;
     }
 }

@@ -1,17 +1,15 @@
 -- Rows that grow: in no step, in two steps, by one row, and what a pair keeps while they do.
-use Prim.Native.Nat.{ℕ, zero, suc, _+_, _/_, _%_, _<_}
-use native.Mathlib.Omega.{arith}
+use Prim.Native.Nat.{ℕ, _+_, _<_}
 use mathlib.Core.Path.{_≡_, refl, sym, ap, _∙_, subst}
 use mathlib.Core.Logic.{_⊎_, inl, inr}
 use mathlib.Core.Bool.{Bool, true, false, not, _&&_, _||_, true≢false}
-use mathlib.Core.List.{List, [], _∷_}
+use mathlib.Core.List.{List}
 use lib.Dec.{eqb}
 use lib.ListN.{length, getD}
 use borrow.Author.Count.{below-more}
 use borrow.Author.Tests.{eqb-true, eq-eqb, not-true, not-false}
 use Rattle.laws.proofs.Search.{decided, and-split, and-join, or-split, or-left, or-right, or-false, every-false}
-use Rattle.laws.specs.Bits.{bit}
-use Rattle.marks.specs.Marks.{wordAt, marked, markIf, inside, Joined}
+use Rattle.marks.specs.Marks.{marked, markIf, inside, Copied, Joined}
 use Rattle.marks.proofs.Laws.{marked-more, markIf-length, inside-marked, marked-inside}
 use Rattle.model.specs.Mend.{Rows}
 use Rattle.mending.specs.Growing.{Below, Grew, Added, Matched, Settled}
@@ -89,21 +87,6 @@ not-inside : (rows : List ℕ) (v u o : ℕ) → o < 256 → marked rows v o ≡
 not-inside rows v u o h on off =
     elim (decided (inside rows v rows u)) [ inl e ↦ absurd (true≢false (sym (inside-marked rows v rows u e o h on) ∙ off)) | inr e ↦ e ]
 
--- four words of a row are a row
-row-word : (rows : List ℕ) (v : ℕ) (a b c d : ℕ) → a ≡ getD rows (wordAt v 0) 0 → b ≡ getD rows (wordAt v 1) 0 → c ≡ getD rows (wordAt v 2) 0
-    → d ≡ getD rows (wordAt v 3) 0 → (j : ℕ) → j < 4 → getD (a ∷ b ∷ c ∷ d ∷ []) (wordAt 0 j) 0 ≡ getD rows (wordAt v j) 0
-row-word rows v a b c d ea eb ec ed zero h = ea
-row-word rows v a b c d ea eb ec ed (suc zero) h = eb
-row-word rows v a b c d ea eb ec ed (suc (suc zero)) h = ec
-row-word rows v a b c d ea eb ec ed (suc (suc (suc zero))) h = ed
-row-word rows v a b c d ea eb ec ed (suc (suc (suc (suc j)))) h = absurd (omega (arith, h))
-
-pub row-copied : (rows : List ℕ) (v : ℕ) (a b c d : ℕ) → a ≡ getD rows (wordAt v 0) 0 → b ≡ getD rows (wordAt v 1) 0 → c ≡ getD rows (wordAt v 2) 0
-    → d ≡ getD rows (wordAt v 3) 0 → (o : ℕ) → o < 256 → marked (a ∷ b ∷ c ∷ d ∷ []) 0 o ≡ marked rows v o
-unfolding marked
-row-copied rows v a b c d ea eb ec ed o h =
-    ap (λ (x : ℕ). bit x (o % 64)) (row-word rows v a b c d ea eb ec ed (o / 64) (omega arith))
-
 -- ---- what is added
 
 module _ (rows names : List ℕ) (u v : ℕ) where
@@ -127,7 +110,7 @@ module _ (rows names : List ℕ) (u v : ℕ) where
           either true = refl
           either false = refl
 
-  pub added-row : inside rows v rows u ≡ false → (row rows′ : List ℕ) → ((o : ℕ) → o < 256 → marked row 0 o ≡ marked rows v o) → Joined rows rows′ u row 0
+  pub added-row : inside rows v rows u ≡ false → (row rows′ : List ℕ) → Copied rows v row → Joined rows rows′ u row 0
       → Added rows names u v rows′ (markIf names true u)
   added-row e row rows′ copied j = record {
     size = j .size;

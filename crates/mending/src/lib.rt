@@ -37,12 +37,7 @@ fn add_row(rows: &mut [u64], names: &mut [u64], u: usize, v: usize)
     if marks::contained(rows, v, rows, u) {
         return;
     }
-    let row = [
-        marks::word_at(rows, v, 0),
-        marks::word_at(rows, v, 1),
-        marks::word_at(rows, v, 2),
-        marks::word_at(rows, v, 3),
-    ];
+    let row = marks::row_at(rows, v);
     marks::join(rows, u, &row, 0);
     marks::mark_if(names, true, u);
 }

@@ -4,7 +4,7 @@
 ghost use mathlib.Core.Path.{_≡_};
 ghost use mathlib.Core.Bool.{not, _||_};
 ghost use Prim.Native.Nat.{_+_, _<_};
-ghost use lib.ListN.{length};
+ghost use lib.ListN.{length, getD};
 ghost use Rattle.model.specs.Tree.{isAgent, nodeAt};
 ghost use Rattle.model.specs.Memory.{isOut, isResource};
 ghost use Rattle.records.specs.Record.{recordAt, recordOf, RecordsFit, nodeOf, arrayOf};
@@ -80,6 +80,14 @@ pub fn node_at(file: &[u8], t: Trailer, i: usize) -> Record
     ensures { λ r. ⌜ r ≡ recordOf (now (file .entry)) t i ⌝ }
 {
     record_at(file, t.start + 16 * i)
+}
+
+// Argument n of node i, read alone.
+pub fn arg_at(file: &[u8], t: Trailer, i: usize, n: usize) -> usize
+    requires { ⌜ RecordsFit (now file) t × (i < t .nodes) × (n < 8) ⌝ }
+    ensures { λ v. ⌜ (v ≡ getD (recordOf (now (file .entry)) t i .args) n 0) × (v < 256) ⌝ }
+{
+    wire::byte_index(file[t.start + 16 * i + 8 + n])
 }
 
 // Node i's record, and past the last node a stop's: there is nothing.

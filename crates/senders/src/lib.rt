@@ -9,7 +9,8 @@ ghost use mathlib.Core.List.{List};
 ghost use lib.Dec.{eqb};
 ghost use lib.ListN.{length, replicate};
 ghost use Rattle.model.specs.Memory.{isOut};
-ghost use Rattle.records.specs.Record.{nodeOf};
+ghost use Rattle.records.specs.Record.{nodeOf, RecordsFit};
+ghost use Rattle.arrays.specs.Agents.{Reads};
 ghost use Rattle.pairs.specs.Pairs.{setting, Given};
 ghost use Rattle.senders.specs.Sets.{sendsMarked, sendsBy, arityMark, sentRow, family, Room, linkIf, Gathered};
 ghost use Rattle.senders.specs.Sets.{HalfNeeds, NeedsGrow, RowsGrow, Grown, SentKept, NeedsKept, KeptBy, SentRows, NeedsThere, Askable};
@@ -20,10 +21,7 @@ use records::Trailer;
 // ---- which set a sender is in
 
 // One more, and 0 after 255.
-fn one_more(x: u8, on: bool) -> u8 {
-    if !on {
-        return x;
-    }
+fn one_more(x: u8) -> u8 {
     if x == 255 {
         return 0;
     }
@@ -41,40 +39,41 @@ fn set_of(seen: &mut [u8], fine: bool, r: Record) -> usize
     }
     let c = r.name % 256;
     let before = wire::byte_index(seen[c]);
-    seen[c] = one_more(seen[c], records::sends(r));
+    seen[c] = one_more(seen[c]);
     (c + before / 16) % 12
 }
 
 // ---- which senders are gathered
 
-// A marked name is among those that r sends.
-fn sends_marked(names: &[u64], r: Record) -> bool
-    requires { ⌜ (length (now names) ≡ 4) × (r .arity ≤ 8) ⌝ }
-    ensures { λ b. ⌜ b ≡ sendsMarked (now (names .entry)) r ⌝ }
+// A marked name is among those that q sends.
+fn sends_marked(names: &[u64], file: &[u8], t: Trailer, q: Side) -> bool
+    requires { ⌜ (length (now names) ≡ 4) × RecordsFit (now file) t × Reads (now file) t (q .number) (q .node) × (q .node .arity ≤ 8) ⌝ }
+    ensures { λ b. ⌜ b ≡ sendsMarked (now (names .entry)) (q .node) ⌝ }
 {
-    let args = r.args;
-    let arity = r.arity;
+    let own = q.number;
+    let arity = q.node.arity;
     let mut sends = false;
     let mut n: usize = 0;
     while n < arity {
-        sends = sends | marks::is_marked(names, 0, wire::byte_index(args[n]));
+        sends = sends | marks::is_marked(names, 0, records::arg_at(file, t, own, n));
         n += 1;
     }
     sends
 }
 
-// r sends, and uses a marked name.
-pub fn sends_by(names: &[u64], r: Record) -> bool
-    requires { ⌜ (length (now names) ≡ 4) × (isOut (nodeOf r) ≡ true → (r .name < 256) × (r .arity ≤ 8)) ⌝ }
-    ensures { λ b. ⌜ b ≡ sendsBy (now (names .entry)) r ⌝ }
+// q sends, and uses a marked name.
+fn sends_by(names: &[u64], file: &[u8], t: Trailer, q: Side) -> bool
+    requires { ⌜ (length (now names) ≡ 4) × RecordsFit (now file) t × Reads (now file) t (q .number) (q .node) ⌝ }
+    requires { ⌜ (isOut (nodeOf (q .node)) ≡ true → (q .node .name < 256) × (q .node .arity ≤ 8)) ⌝ }
+    ensures { λ b. ⌜ b ≡ sendsBy (now (names .entry)) (q .node) ⌝ }
 {
-    if !records::sends(r) {
+    if !records::sends(q.node) {
         return false;
     }
-    if marks::is_marked(names, 0, r.name) {
+    if marks::is_marked(names, 0, q.node.name) {
         return true;
     }
-    sends_marked(names, r)
+    sends_marked(names, file, t, q)
 }
 
 // ---- what a set keeps, and where
@@ -103,12 +102,12 @@ pub fn last_link(g: usize) -> usize
     1024 + g
 }
 
-// The greater of an entry and a need.
+// The greater of an entry and a need, of which a machine compares several at once.
 fn greater(x: u32, need: u32) -> u32
     requires { ⌜ (x < 1073741824) × (need < 1073741824) ⌝ }
     ensures { λ r. ⌜ (x ≤ r) × (need ≤ r) × (r < 1073741824) ⌝ }
 {
-    if x < need {
+    if loads::less(x, need) {
         return need;
     }
     x
@@ -130,16 +129,18 @@ fn join_needs(needs: &mut [u32], g: usize, balances: usize, loads: &[u32], q: Si
     }
 }
 
-// Set g keeps the rows of what sender q sends.
-fn join_sent(unions: &mut [u64], g: usize, rows: &[u64], r: Record)
-    requires { ⌜ (length (now unions) ≡ 432) × (g < 12) × SentRows (now rows) r ⌝ }
-    ensures { λ _. ⌜ RowsGrow (now (unions .entry)) (now (unions .exit)) × SentKept (now (rows .entry)) (now (unions .exit)) g r ⌝ }
+// Set g keeps the rows of what sender q sends. Each argument is read alone: the arguments of a record together would be copied to the stack first.
+fn join_sent(unions: &mut [u64], g: usize, rows: &[u64], file: &[u8], t: Trailer, q: Side)
+    requires { ⌜ (length (now unions) ≡ 432) × (g < 12) × SentRows (now rows) (q .node) × RecordsFit (now file) t
+        × Reads (now file) t (q .number) (q .node) ⌝ }
+    ensures { λ _. ⌜ RowsGrow (now (unions .entry)) (now (unions .exit)) × SentKept (now (rows .entry)) (now (unions .exit)) g (q .node) ⌝ }
 {
-    let args = r.args;
-    let arity = r.arity;
+    let own = q.number;
+    let arity = q.node.arity;
     let mut m: usize = 0;
     while m < arity {
-        marks::join(unions, sent_row(g, m), rows, wire::byte_index(args[m]));
+        let row = sent_row(g, m);
+        marks::join(unions, row, rows, records::arg_at(file, t, own, m));
         m += 1;
     }
 }
@@ -153,16 +154,19 @@ fn join_figures(
     balances: usize,
     rows: &[u64],
     loads: &[u32],
+    file: &[u8],
+    t: Trailer,
     q: Side,
 )
     requires { ⌜ (length (now needs) ≡ 288) × HalfNeeds (now needs) × (length (now unions) ≡ 432) × (g < 12) ⌝ }
-    requires { ⌜ SentRows (now rows) (q .node) × NeedsThere balances (now loads) q ⌝ }
+    requires { ⌜ SentRows (now rows) (q .node) × NeedsThere balances (now loads) q × RecordsFit (now file) t
+        × Reads (now file) t (q .number) (q .node) ⌝ }
     ensures { λ _. ⌜ NeedsGrow (now (needs .entry)) (now (needs .exit)) × RowsGrow (now (unions .entry)) (now (unions .exit)) ⌝ }
     ensures { λ _. ⌜ (eqb rule 3 ≡ true → SentKept (now (rows .entry)) (now (unions .exit)) g (q .node))
         × (eqb rule 3 ≡ false → NeedsKept balances (now (loads .entry)) (now (needs .exit)) g q) ⌝ }
 {
     if rule == 3 {
-        join_sent(unions, g, rows, q.node);
+        join_sent(unions, g, rows, file, t, q);
     } else {
         join_needs(needs, g, balances, loads, q);
     }
@@ -179,10 +183,12 @@ fn join_sender(
     balances: usize,
     rows: &[u64],
     loads: &[u32],
+    file: &[u8],
+    t: Trailer,
     q: Side,
 )
     requires { ⌜ Room (family (now needs) (now unions) (now arities)) × (g < 12) ⌝ }
-    requires { ⌜ (on ≡ true → Askable balances (now rows) (now loads) q) ⌝ }
+    requires { ⌜ RecordsFit (now file) t × Reads (now file) t (q .number) (q .node) × (on ≡ true → Askable balances (now rows) (now loads) q) ⌝ }
     ensures { λ _. ⌜ Grown (family (now (needs .entry)) (now (unions .entry)) (now (arities .entry)))
         (family (now (needs .exit)) (now (unions .exit)) (now (arities .exit))) ⌝ }
     ensures { λ _. ⌜ (on ≡ true → KeptBy rule balances (now (rows .entry)) (now (loads .entry))
@@ -193,7 +199,7 @@ fn join_sender(
     }
     marks::mark_if(arities, true, arity_mark(g, q.node.arity));
     marks::join(unions, g, rows, q.node.name);
-    join_figures(rule, needs, unions, g, balances, rows, loads, q);
+    join_figures(rule, needs, unions, g, balances, rows, loads, file, t, q);
 }
 
 // ---- links
@@ -241,8 +247,8 @@ pub fn gather(
             number: i,
             node: records::node_at(file, t, i),
         };
-        let g = set_of(&mut seen, fine, q.node);
-        let on = sends_by(names, q.node);
+        let on = sends_by(names, file, t, q);
+        let g = set_of(&mut seen, fine & on, q.node);
         join_sender(
             on,
             rule,
@@ -253,6 +259,8 @@ pub fn gather(
             balances,
             rows,
             loads,
+            file,
+            t,
             q,
         );
         link_if(links, on, g, i);

@@ -8,10 +8,14 @@ use Rattle.senders.proofs.join_figures.Statement.{statement}
 use Rattle.senders.proofs.join_figures.Tie as tie
 
 join-sent-requires : tie.Need-join-sent-requires
-join-sent-requires c κs = let p = c .before .before .before .before .before .before .pre in (p .0 .2, p .0 .3, p .1 .0)
+join-sent-requires c κs =
+    let p = c .before .before .before .before .before .before .before .pre in
+    (p .0 .2, p .0 .3, p .1 .0, p .1 .2, p .1 .3)
 
 join-needs-requires : tie.Need-join-needs-requires
-join-needs-requires c κs = let p = c .before .before .before .before .before .before .pre in (p .0 .0, p .0 .1, omega (arith, p .0 .3), p .1 .1)
+join-needs-requires c κs =
+    let p = c .before .before .before .before .before .before .before .pre in
+    (p .0 .0, p .0 .1, omega (arith, p .0 .3), p .1 .1)
 
 same-length : tie.Need-same-length
 same-length c = c .before .before .join-sent .ensures .0 .size

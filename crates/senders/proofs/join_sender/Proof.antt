@@ -16,7 +16,7 @@ use Rattle.senders.proofs.join_sender.Tie as tie
 
 -- the start, seen from the test of `on`, that test, seen from the mark, and the mark, seen from the row that is joined
 abbrev begun : tie.Else1 → tie.Start
-begun c = c .before .before .before .before .before .before
+begun c = c .before .before .before .before .before .before .before
 
 abbrev tested : tie.After-mark-if → tie.Else1
 tested c = c .before .before .before
@@ -31,7 +31,7 @@ noted c = c .before .before .before .before
 
 -- what the lists have of it
 asked : (c : tie.Else1) → let x = begun c .args in Askable (x .balances) (now (x .rows)) (now (x .loads)) (x .q)
-asked c = begun c .pre .1 (not-false (begun c .args .on) (c .if1 .left))
+asked c = begun c .pre .1 .2 (not-false (begun c .args .on) (c .if1 .left))
 
 -- the mark of its arity has a place
 fits : (c : tie.Else1) → let x = begun c .args in arityMark (x .g) (x .q .node .arity) / 64 < length (now (x .arities))
@@ -54,8 +54,10 @@ join-requires c κs =
 join-figures-requires : tie.Need-join-figures-requires
 join-figures-requires c κs =
     let at = tested (noted (c .before .before .before .before)) in
-    let p = begun at .pre .0 in
-    ((p .0 .needs, p .0 .half, c .before .before .before .before .join .ensures .size ∙ p .0 .unions, p .1), (asked at .sent, asked at .needs))
+    let p = begun at .pre .0 in (
+      (p .0 .needs, p .0 .half, c .before .before .before .before .join .ensures .size ∙ p .0 .unions, p .1),
+      (asked at .sent, asked at .needs, begun at .pre .1 .0, begun at .pre .1 .1),
+    )
 
 same-length : tie.Need-same-length
 same-length c = c .before .before .before .before .join-figures .ensures .0 .0 .size
