@@ -47,7 +47,7 @@ use Rattle.handover.specs.Files.{pis, nodesA, inOrderA, turnedA, repeate
 use Rattle.handover.specs.Files.{tablesRead, arraysRead, Letters, Denies, unmended}
 use Rattle.handover.specs.Files.{Answered, calls, toLeft, Ended, Answers, endings, Unlisted}
 use Rattle.handover.specs.Mending.{mendReply, mendOutput}
-use Rattle.handover.specs.Refusals.{done, StartNumber, WalkNumber}
+use Rattle.handover.specs.Refusals.{done, TableNumber, StartNumber, WalkNumber}
 
 -- Whoever unfolds this unfolds every definition behind the answer.
 computed : Unit {0}
@@ -212,11 +212,12 @@ past n m h k = absurd (omega (arith, h, k))
 pub unlisted : Unlisted
 unlisted = record {
   array = (λ h. past 0 1 (omega arith) (h .0), λ h. past 12 13 (omega arith) (h .1));
-  table = (
-    λ h. ⊎-elim (λ a. past 0 1 (omega arith) (a .0)) (λ b. past 0 30 (omega arith) (b .0)) h,
-    λ h. ⊎-elim (λ a. past 21 22 (omega arith) (a .1)) (λ b. past 22 30 (omega arith) (b .0)) h,
-    λ h. ⊎-elim (λ a. past 21 29 (omega arith) (a .1)) (λ b. past 29 30 (omega arith) (b .0)) h,
-    λ h. ⊎-elim (λ a. past 21 32 (omega arith) (a .1)) (λ b. past 31 32 (omega arith) (b .1)) h,
+  table = (none, middle 22 (omega arith) (omega arith), middle 29 (omega arith) (omega arith), above 32 (omega arith));
+  mend = (
+    ⊎-elim none (omega arith),
+    ⊎-elim (middle 22 (omega arith) (omega arith)) (omega arith),
+    ⊎-elim (middle 29 (omega arith) (omega arith)) (omega arith),
+    ⊎-elim (above 33 (omega arith)) (omega arith),
   );
   start = (
     start-not 13 (omega arith) (omega arith) (omega arith),
@@ -237,6 +238,19 @@ unlisted = record {
   );
 }
   where
+    -- below the numbers of table calls, between them and above them
+    none : TableNumber 0 → ⊥
+    none (inl k) = past 0 1 (omega arith) (k .0)
+    none (inr k) = past 0 30 (omega arith) (k .0)
+
+    middle : (n : ℕ) → 21 < n → n < 30 → TableNumber n → ⊥
+    middle n h l (inl k) = past 21 n h (k .1)
+    middle n h l (inr k) = past n 30 l (k .0)
+
+    above : (n : ℕ) → 31 < n → TableNumber n → ⊥
+    above n h (inl k) = past 21 n (omega arith) (k .1)
+    above n h (inr k) = past 31 n h (k .1)
+
     start-not : (n : ℕ) → 12 < n → n ≢ 22 → n ≢ 28 → StartNumber n → ⊥
     start-not n h a b (inl k) = past 12 n h (k .1)
     start-not n h a b (inr (inl k)) = a k

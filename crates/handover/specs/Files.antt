@@ -18,7 +18,7 @@ use Rattle.engine.specs.declared.Allowance.{Allowance}
 use Rattle.lent.specs.declared.Counts.{Counts}
 use Rattle.engine.specs.declared.Turn.{Turn}
 use Rattle.engine.specs.declared.Walk.{Walk}
-use Rattle.handover.specs.Refusals.{done, refused, ArrayNumber, TableNumber, StartNumber, StepNumber, WalkNumber}
+use Rattle.handover.specs.Refusals.{done, refused, ArrayNumber, TableNumber, MendNumber, StartNumber, StepNumber, WalkNumber}
 use Rattle.handover.specs.Front.{arrayIn, tableIn, Outcome, held, rule, SameBytes, OneOrder, OneFile, Demand3, SetsBounded}
 use Rattle.handover.specs.Mending.{mendReply, mendOutput}
 use Rattle.handover.specs.Engine as E
@@ -366,6 +366,7 @@ endings =
 pub record Unlisted : Type 0 where
   pub array : (ArrayNumber 0 → ⊥) × (ArrayNumber 13 → ⊥)
   pub table : (TableNumber 0 → ⊥) × (TableNumber 22 → ⊥) × (TableNumber 29 → ⊥) × (TableNumber 32 → ⊥)
+  pub mend : (MendNumber 0 → ⊥) × (MendNumber 22 → ⊥) × (MendNumber 29 → ⊥) × (MendNumber 33 → ⊥)
   pub start : (StartNumber 13 → ⊥) × (StartNumber 23 → ⊥) × (StartNumber 27 → ⊥) × (StartNumber 29 → ⊥)
   pub step : (StepNumber 13 → ⊥) × (StepNumber 21 → ⊥) × (StepNumber 30 → ⊥)
   pub walk : (WalkNumber 13 → ⊥) × (WalkNumber 21 → ⊥) × (WalkNumber 24 → ⊥) × (WalkNumber 28 → ⊥)

@@ -17,8 +17,8 @@
 //
 // The numbers that each may refuse by are in specs/Refusals.
 //
-// `check` takes about 140 KiB of stack (measured), for the checker's own lists and the table of reaching names. `start`, `step`, `walk` and
-// `stride` take up to about 240 KiB (measured), for the table of free names, the marks of marker entries and a frame for each new, par and
+// `check` and `mend` take about 140 KiB of stack (measured), for lists of their own and the table of reaching names. `start`, `step`, `walk`
+// and `stride` take up to about 240 KiB (measured), for the table of free names, the marks of marker entries and a frame for each new, par and
 // choice on the deepest path of one unfolding, at most 640.
 ghost use mathlib.Core.Path.{_≡_};
 ghost use mathlib.Core.List.{[]};

@@ -57,9 +57,10 @@ loop-again c =
     let at = c .before .before .before in
     let x = begun (looped at) .args in
     let l = looped at .loop in
+    let args = recordOf (now (x .file)) (x .t) (x .q .number) .args in
     let j = rw (at .before .before .sent-row .ensures) at (c .before .before .join .ensures) in (
       rows-trans (l .inv .0) (rows-joined j),
-      below-more (λ i. inside (now (x .rows)) (getD (recordOf (now (x .file)) (x .t) (x .q .number) .args) i 0) (c .before .before .join .last .0) (sentRow (x .g) i) ≡ true) (l .m)
+      below-more (λ i. inside (now (x .rows)) (getD args i 0) (c .before .before .join .last .0) (sentRow (x .g) i) ≡ true) (l .m)
           (λ i h. rows-keep _ _ _ (l .inv .1 i h) (rows-joined j))
           (rw (← at .arg-at .ensures .0) (join-adds _ _ _ _ _ j)),
     )
