@@ -1,5 +1,6 @@
 /*
- * Calls the checker from C: call ARRAY TABLE says in words what handover_check answers.
+ * Calls the library from C: call ARRAY TABLE says in words what handover_check answers and, where rule 1 or 3 is broken, how many bits
+ * handover_mend would set.
  *
  *     cc -std=c99 -Wall -Wextra -pedantic examples/call.c $(pkg-config --cflags --libs handover) -o call
  *
@@ -11,6 +12,9 @@
 /* A byte more than the longest file that is read, so that a longer one is seen to be too long. */
 static uint8_t array[17425];
 static uint8_t table[59517];
+
+/* The longest table that is read. */
+static uint8_t mended[59516];
 
 /* A file that can't be opened counts as empty, as for judge. */
 static size_t read_file(const char *path, uint8_t *buffer, size_t room)
@@ -44,9 +48,19 @@ static int say(uint64_t answer)
     return code == 0 ? 0 : code < 100 ? 1 : 2;
 }
 
+/* The table was read, so that nothing is refused. */
+static void say_missing(const uint8_t *array_bytes, size_t array_len, const uint8_t *table_bytes, size_t table_len)
+{
+    uint64_t answer = handover_mend(array_bytes, array_len, table_bytes, table_len, mended, sizeof mended);
+
+    printf("bits that rules 1 and 3 ask for: %lu\n", (unsigned long)(answer >> 8));
+}
+
 int main(int argc, char **argv)
 {
     size_t array_len, table_len;
+    uint64_t answer;
+    int status;
 
     if (argc != 3) {
         fprintf(stderr, "usage: call ARRAY TABLE\n");
@@ -54,5 +68,9 @@ int main(int argc, char **argv)
     }
     array_len = read_file(argv[1], array, sizeof array);
     table_len = read_file(argv[2], table, sizeof table);
-    return say(handover_check(array, array_len, table, table_len));
+    answer = handover_check(array, array_len, table, table_len);
+    status = say(answer);
+    if ((answer & 0xff) == 1 || (answer & 0xff) == 3)
+        say_missing(array, array_len, table, table_len);
+    return status;
 }

@@ -1,8 +1,9 @@
 //! libFuzzer's entry. An input is read as two files and a list of calls; each call is made of the C entry and of the plain version, and the
 //! answers, every word of both lists and every byte of an output must agree. A difference panics, which libFuzzer reports with the input.
 //!
-//! The table is checked, and mended into an output of its length and into one that lacks a byte. An input: a byte of flags, then the array and the table, each with its length in two bytes, then the lengths of the thread list and the
-//! marker list in two bytes each and a byte to fill them with, then calls. What an input lacks reads as zeros, so every input is one.
+//! The table is checked, and mended into an output of its length and into one that lacks a byte. An input: a byte of flags, then the array and
+//! the table, each with its length in two bytes, then the lengths of the thread list and the marker list in two bytes each and a byte to fill
+//! them with, then calls. What an input lacks reads as zeros, so every input is one.
 
 mod calls;
 mod input;

@@ -136,7 +136,7 @@ pub fn refusal(answer: u64) -> Option<u8> {
     code(answer).checked_sub(100)
 }
 
-/// The three figures of the place in an answer of `check`.
+/// The three figures of the place in an answer of `check`; where `check` or `mend` refuses, the first is the place.
 pub fn figures(answer: u64) -> [u64; 3] {
     [answer >> 8 & 0xffff, answer >> 24 & 0xffff, answer >> 40]
 }

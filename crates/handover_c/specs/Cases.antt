@@ -3,6 +3,7 @@ use Prim.Native.Nat.{ℕ}
 use mathlib.Core.Path.{_≡_}
 use mathlib.Core.List.{List, [], _∷_}
 use Rattle.model.specs.declared.Ending.the-variants.{Spent}
+use Rattle.handover.specs.Refusals.{Reply, done, refused}
 use Rattle.handover.specs.Front.{Outcome, rule}
 use Rattle.engine.specs.declared.Walk.{Walk}
 use Rattle.handover.specs.Files.{pis, nodesE, toRight, startedE, counts}
@@ -14,9 +15,9 @@ use Rattle.handover_c.specs.Packed.{StepsInC}
 abbrev pub verdicts : List (Outcome × ℕ)
 verdicts = (rule 4 (1000 ∷ 700 ∷ 23 ∷ []), 25300511746052) ∷ []
 
--- bits that were set, 2^8 × 300 and 2^8 × 65,536, the most that there are
-abbrev pub mends : List (ℕ × ℕ)
-mends = (300, 76800) ∷ (65536, 16777216) ∷ []
+-- bits that were set, 2^8 × 300 and 2^8 × 65,536, the most that there are; refusal 31 at claim 300, 131 + 2^8 × 300
+abbrev pub mends : List (Reply ℕ × ℕ)
+mends = (done 300, 76800) ∷ (done 65536, 16777216) ∷ (refused 31 300, 76931) ∷ []
 
 -- 1 + 2^8 × 256 + 2^18 × 4,096 + 2^32 × 70,000
 abbrev pub walks : List (Walk × ℕ)

@@ -8,7 +8,6 @@ use mathlib.Core.List.{List}
 use lib.ListN.{length, getD}
 use Rattle.wire.specs.Numbers.{u32At}
 use Rattle.wire.proofs.Laws.{u16-small}
-use Rattle.marks.specs.Marks.{marked}
 use Rattle.model.specs.Tree.{Array, Node, nodeAt, isAgent}
 use Rattle.model.specs.Nodes.{loadOf}
 use Rattle.model.specs.Formed.{WellFormed}
@@ -20,11 +19,11 @@ use Rattle.records.specs.declared.Trailer.{Trailer}
 use Rattle.records.specs.Record.{arrayOf}
 use Rattle.arrays.specs.File.{IsRead}
 use Rattle.layout.specs.declared.Sizes.{Sizes}
-use Rattle.layout.specs.Table.{balanceAt, rowBit, tableOf, IsTable}
+use Rattle.layout.specs.Table.{balanceAt, tableOf, IsTable}
 use Rattle.loads.specs.Loads.{loadIn, AllLoads}
 use Rattle.loads.proofs.Laws.{small-load, half-load}
 use Rattle.pairs.specs.Pairs.{Weighed}
-use Rattle.lists.specs.Listed.{Listed}
+use Rattle.lists.specs.Listed.{RowsRead, Listed}
 
 agent-load : (w : ℕ → ℕ) (i : ℕ) (f : ℕ → ℕ) (v : Node) → isAgent v ≡ true → loadOf w i f v ≡ w i
 unfolding isAgent loadOf
@@ -35,9 +34,8 @@ agent-load w i f (Node.choice l r) e = absurd (false≢true e)
 agent-load w i f (Node.agent s x ys l) e = refl
 
 module _ (f : List ℕ) (t : Trailer) (s : List ℕ) (z : Sizes) (read : IsRead f t) (table : IsTable f t s z) (bytes : (i : ℕ) → getD s i 0 < 256)
-    (rows loads bounds : List ℕ) (manyRows : length rows ≡ 1024) (manyLoads : length loads ≡ 24576) (manyBounds : length bounds ≡ 24)
-    (marks : (v o : ℕ) → v < z .names → o < 256 → marked rows v o ≡ rowBit s z v o) (weighs : AllLoads loads (arrayOf f t) (tableOf s z))
-    (bears : (k : ℕ) → k < z .balances → getD bounds k 0 ≡ u32At s (balanceAt z k)) where
+    (rows loads bounds : List ℕ) (rowed : RowsRead s z rows) (manyLoads : length loads ≡ 24578) (manyBounds : length bounds ≡ 24)
+    (weighs : AllLoads loads (arrayOf f t) (tableOf s z)) (bears : (k : ℕ) → k < z .balances → getD bounds k 0 ≡ u32At s (balanceAt z k)) where
   abbrev b : Array
   b = arrayOf f t
 
@@ -67,8 +65,8 @@ module _ (f : List ℕ) (t : Trailer) (s : List ℕ) (z : Sizes) (read : IsRead 
   filled = record {
     given = record {
       read = read;
-      lists = record { few = table .laid .fewBalances; manyRows = manyRows; manyBounds = manyBounds };
+      lists = record { few = table .laid .fewBalances; manyRows = rowed .size; manyBounds = manyBounds };
       weighed = weighed;
     };
-    same = record { rows = λ v o h. marks v o (rw (table .laid .names) h); many = refl; bounds = bears; weights = weight-is };
+    same = record { rows = λ v o h. rowed .marks v o (rw (table .laid .names) h); many = refl; bounds = bears; weights = weight-is };
   }

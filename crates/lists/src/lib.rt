@@ -1,13 +1,14 @@
-// The checker's own lists, filled from an array file and a table file that were read: rows of marks, loads of all nodes in all balances, bounds.
-// Promises that they stand for the array and the table of the bytes. Depends on flows (rows), loads, pairs (the lists' table), layout,
-// arrays, records, marks, wire, model and laws. Whoever lends the lists gives 106,592 bytes of stack.
+// The checker's own lists, filled from an array file and a table file that were read: loads of all nodes in all balances, bounds; beside rows of marks.
+// Promises that with the table's rows they stand for the array and the table of the bytes. Depends on loads, pairs (the lists' table), layout,
+// arrays, records, marks, wire, model and laws. Whoever lends the lists, with rows, gives 106,600 bytes of stack.
 ghost use mathlib.Core.Path.{_≡_};
+ghost use mathlib.Core.List.{List};
 ghost use Prim.Native.Nat.{ℕ, _<_, _≤_};
 ghost use lib.ListN.{length, getD};
 ghost use Rattle.wire.specs.Numbers.{u32At};
 ghost use Rattle.arrays.specs.File.{IsRead};
 ghost use Rattle.layout.specs.Table.{balanceAt, claimAt, IsTable};
-ghost use Rattle.lists.specs.Listed.{Listed};
+ghost use Rattle.lists.specs.Listed.{RowsRead, Listed};
 use layout::Sizes;
 use records::Trailer;
 
@@ -23,9 +24,8 @@ fn all_bounds(bounds: &mut [u32], table: &[u8], z: Sizes)
     }
 }
 
-// The three lists.
+// Loads and bounds. Rows are read by those who lend them: written where they are lent, they lie where a machine reads several words at once.
 pub fn fill_lists(
-    rows: &mut [u64],
     loads: &mut [u32],
     bounds: &mut [u32],
     file: &[u8],
@@ -34,10 +34,10 @@ pub fn fill_lists(
     z: Sizes,
 )
     requires { ⌜ IsRead (now file) t × IsTable (now file) t (now table) z ⌝ }
-    requires { ⌜ (length (now rows) ≡ 1024) × (length (now loads) ≡ 24576) × (length (now bounds) ≡ 24) ⌝ }
-    ensures { λ _. ⌜ Listed (now (file .entry)) t (now (table .entry)) z (now (rows .exit)) (now (loads .exit)) (now (bounds .exit)) ⌝ }
+    requires { ⌜ (length (now loads) ≡ 24578) × (length (now bounds) ≡ 24) ⌝ }
+    ensures { λ _. ⌜ ((rows : List ℕ) → RowsRead (now (table .entry)) z rows
+        → Listed (now (file .entry)) t (now (table .entry)) z rows (now (loads .exit)) (now (bounds .exit))) ⌝ }
 {
-    flows::flow_rows(rows, table, z);
     loads::all_loads(loads, file, t, table, z);
     all_bounds(bounds, table, z);
 }

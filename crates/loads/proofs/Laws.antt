@@ -83,7 +83,7 @@ small-load a ok w small loads i k h e =
     let b = load-bound a (ok .children) (ok .parents) w i h 65535 small in
     omega arith
 
-pub half-load : (a : Array) → WellFormed a → (w : ℕ → ℕ) → ((j : ℕ) → w j ≤ 65535) → (loads : List ℕ) → length loads ≡ 24576
+pub half-load : (a : Array) → WellFormed a → (w : ℕ → ℕ) → ((j : ℕ) → w j ≤ 65535) → (loads : List ℕ) → length loads ≡ 24578
     → (i k : ℕ) → i < a .size → k < 24 → loadIn loads i k ≡ load w (procAt a i) → Half loads i k
 half-load a ok w small loads size i k h few e =
     let n = ok .fewNodes in
@@ -94,7 +94,7 @@ module _ (s : List ℕ) (t : Trailer) (ok : WellFormed (arrayOf s t)) (i : ℕ) 
   module _ (tab : Table) (few : tab .balances ≤ 24) (before after : List ℕ) (filled : FilledFrom before (arrayOf s t) tab (i + 1))
       (above : SameAbove before after i) where
     -- the entry of a child is there
-    pub half-child : length after ≡ 24576 → (k : ℕ) → k < tab .balances → ((j : ℕ) → (tab .balance k) .weight j ≤ 65535)
+    pub half-child : length after ≡ 24578 → (k : ℕ) → k < tab .balances → ((j : ℕ) → (tab .balance k) .weight j ≤ 65535)
         → (c : ℕ) → has (children (nodeOf r)) c ≡ true → Half after c k
     half-child size k l small c g =
         let f = child-of s t i r h e (ok .children) c g in

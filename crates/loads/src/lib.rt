@@ -1,4 +1,5 @@
-// The loads of all nodes in all balances, worked out once, from the last node to the first, into a list that the checker lends.
+// The loads of all nodes in all balances, worked out once, from the last node to the first, into a list that the checker lends. The list has two entries
+// to spare, so that it and the rows beside it start at a multiple of 16 bytes, as the compiler lays out the stack: else reads cross cache lines.
 // Promises that each entry is the load of the process tree. Depends on layout, records, wire, model and laws.
 ghost use mathlib.Core.Path.{_≡_};
 ghost use mathlib.Core.Bool.{true};
@@ -66,7 +67,7 @@ fn load_of(loads: &[u32], r: Record, k: usize, weight: u32) -> u32
 // The loads of node i in every balance, from those of the nodes above it.
 fn fill_node(loads: &mut [u32], file: &[u8], t: Trailer, table: &[u8], z: Sizes, i: usize)
     requires { ⌜ RecordsFit (now file) t × WellFormed (arrayOf (now file) t) × Laid t (now table) z ⌝ }
-    requires { ⌜ (length (now loads) ≡ 24576) × (i < t .nodes) × FilledFrom (now loads) (arrayOf (now file) t) (tableOf (now table) z) (i + 1) ⌝ }
+    requires { ⌜ (length (now loads) ≡ 24578) × (i < t .nodes) × FilledFrom (now loads) (arrayOf (now file) t) (tableOf (now table) z) (i + 1) ⌝ }
     ensures { λ _. ⌜ FilledFrom (now (loads .exit)) (arrayOf (now (file .entry)) t) (tableOf (now (table .entry)) z) i ⌝ }
 {
     let r = records::node_at(file, t, i);
@@ -82,7 +83,7 @@ fn fill_node(loads: &mut [u32], file: &[u8], t: Trailer, table: &[u8], z: Sizes,
 // The loads of all nodes in all balances.
 pub fn all_loads(loads: &mut [u32], file: &[u8], t: Trailer, table: &[u8], z: Sizes)
     requires { ⌜ RecordsFit (now file) t × WellFormed (arrayOf (now file) t) × Laid t (now table) z ⌝ }
-    requires { ⌜ length (now loads) ≡ 24576 ⌝ }
+    requires { ⌜ length (now loads) ≡ 24578 ⌝ }
     ensures { λ _. ⌜ AllLoads (now (loads .exit)) (arrayOf (now (file .entry)) t) (tableOf (now (table .entry)) z) ⌝ }
 {
     let mut i = t.nodes;

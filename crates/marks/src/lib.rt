@@ -1,4 +1,4 @@
-// Rows of 256 marks, each in four 64-bit words of a list of rows: test, set, share, contain. A row is asked for by its number; where it
+// Rows of 256 marks, each in four 64-bit words of a list of rows: test, set, share, contain, copy, join. A row is asked for by its number; where it
 // stands is said here. Promises equations with specs/Marks. Depends on laws and wire.
 ghost use mathlib.Core.Path.{_≡_};
 ghost use Prim.Native.Nat.{_/_, _<_};

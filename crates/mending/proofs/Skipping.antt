@@ -28,12 +28,10 @@ use Rattle.mending.specs.Growing.{Grew, setClear, touches, Noted, Stale,
 use Rattle.mending.proofs.Noting.{regrown, noted-grew, own-off, sent-off}
 
 -- what was gathered from the rows of now
-abbrev pub stale-now : {S : Setting} → Given S → {names chosen : List ℕ} {F : Family} {links : List ℕ} → Gathered 3 S chosen F links
+abbrev pub stale-now : {S : Setting} {names chosen : List ℕ} {F : Family} {links : List ℕ} → Gathered 3 S chosen F links
     → Stale (S .f) (S .t) (S .n) (S .rows) (S .loads) (S .bounds) names chosen F links
-stale-now {S} g k = record {
+stale-now {S} k = record {
   old = S .rows;
-  size = g .lists .manyRows;
-  more = λ v o h e. e;
   since = λ v o h off on. absurd (true≢false (sym on ∙ off));
   gathered = k;
 }
@@ -44,8 +42,6 @@ abbrev pub stale-grew : {C : Rows → Type 0} {f : List ℕ} {t : Trailer} {n : 
     → Stale f t n rows′ loads bounds names′ chosen F links
 stale-grew {rows = rows} k a = record {
   old = k .old;
-  size = k .size;
-  more = λ v o h e. a .more v o h (k .more v o h e);
   since = λ v o h off on.
       elim (decided (marked rows v o)) [ inl e ↦ a .keeps v (k .since v o h off e) | inr e ↦ a .notes v o h e on ];
   gathered = k .gathered;

@@ -77,8 +77,6 @@ Noted S names p q = breaksPair 3 S p q ≡ true → touches names p q ≡ true
 -- the sets were gathered from rows that differ from these in rows of noted names alone
 pub record Stale (f : List ℕ) (t : Trailer) (n : ℕ) (rows loads bounds names chosen : List ℕ) (F : Family) (links : List ℕ) : Type 0 where
   pub old : List ℕ
-  pub size : length old ≡ 1024
-  pub more : (v o : ℕ) → o < 256 → marked old v o ≡ true → marked rows v o ≡ true
   pub since : (v o : ℕ) → o < 256 → marked old v o ≡ false → marked rows v o ≡ true → marked names 0 v ≡ true
   pub gathered : Gathered 3 (setting f t n old loads bounds) chosen F links
 

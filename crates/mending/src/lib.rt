@@ -2,7 +2,7 @@
 // name whose row changed in the pass before, and sets of senders are asked before single ones.
 // Promises the rows that the model's rounds find, written with their word sum, and the number of bits set. Depends on lists (rows, loads, bounds), flows
 // (rows as bytes), filter and senders (sets of senders), pairs, frees (the names that news open), layout, loads, arrays, records, marks, wire, model and
-// laws. The lists take 106,592 bytes of stack, those of a sweep 13,424.
+// laws. The lists take 106,600 bytes of stack, those of a sweep 13,424.
 ghost use mathlib.Core.Path.{_≡_};
 ghost use mathlib.Core.Bool.{true, not, _&&_};
 ghost use mathlib.Core.List.{List};
@@ -515,9 +515,10 @@ pub fn mend_table(output: &mut [u8], file: &[u8], t: Trailer, table: &[u8], z: S
         (now (output .entry)) ⌝ }
 {
     let mut rows = [0u64; 1024];
-    let mut loads = [0u32; 24576];
+    let mut loads = [0u32; 24578];
     let mut bounds = [0u32; 24];
-    lists::fill_lists(&mut rows, &mut loads, &mut bounds, file, t, table, z);
+    flows::flow_rows(&mut rows, table, z);
+    lists::fill_lists(&mut loads, &mut bounds, file, t, table, z);
     own_marks(&mut rows, file, t);
     mend_rows(&mut rows, file, t, z.balances, &loads, &bounds);
     flows::write_table(output, table, &rows, z);

@@ -1,7 +1,7 @@
 // The five rules in number order, over an array file and a table file that were read.
-// Promises the model's verdict over the array and the table that the bytes stand for. Depends on filter and pairs (rules 3 and 4), lists
-// and loads (the checker's own lists), claims (a set's first), layout, frees (the names that news open), arrays, records, marks, wire, model and laws.
-// The lists take 106,592 bytes of stack.
+// Promises the model's verdict over the array and the table that the bytes stand for. Depends on filter and pairs (rules 3 and 4), flows,
+// lists and loads (the checker's own lists), claims (a set's first), layout, frees (the names that news open), arrays, records, marks, wire, model and laws.
+// The lists take 106,600 bytes of stack.
 ghost use mathlib.Core.Path.{_≡_};
 ghost use Prim.Native.Nat.{_+_, _<_, _≤_};
 ghost use lib.ListN.{length};
@@ -196,8 +196,9 @@ pub fn judge(file: &[u8], t: Trailer, table: &[u8], z: Sizes) -> Ruling
     ensures { λ r. ⌜ ruled r ≡ M.verdict (arrayOf (now (file .entry)) t) (tableOf (now (table .entry)) z) ⌝ }
 {
     let mut rows = [0u64; 1024];
-    let mut loads = [0u32; 24576];
+    let mut loads = [0u32; 24578];
     let mut bounds = [0u32; 24];
-    lists::fill_lists(&mut rows, &mut loads, &mut bounds, file, t, table, z);
+    flows::flow_rows(&mut rows, table, z);
+    lists::fill_lists(&mut loads, &mut bounds, file, t, table, z);
     all_rules(file, t, table, z, &rows, &loads, &bounds)
 }

@@ -3,6 +3,7 @@
 // Promises that each of these senders is in one set, that its set keeps what it asks of a receiver, and that the links pass every sender of a set.
 // Which set a sender is in is free. Depends on pairs (a side, what it needs), loads, arrays, records, marks, wire, model and laws.
 ghost use mathlib.Core.Path.{_≡_};
+ghost use mathlib.Core.Logic.{_⊎_};
 ghost use mathlib.Core.Bool.{true, false};
 ghost use Prim.Native.Nat.{ℕ, _+_, _<_, _≤_};
 ghost use mathlib.Core.List.{List};
@@ -105,7 +106,7 @@ pub fn last_link(g: usize) -> usize
 // The greater of an entry and a need, of which a machine compares several at once.
 fn greater(x: u32, need: u32) -> u32
     requires { ⌜ (x < 1073741824) × (need < 1073741824) ⌝ }
-    ensures { λ r. ⌜ (x ≤ r) × (need ≤ r) × (r < 1073741824) ⌝ }
+    ensures { λ r. ⌜ (x ≤ r) × (need ≤ r) × (r < 1073741824) × ((r ≡ x) ⊎ (r ≡ need)) ⌝ }
 {
     if loads::less(x, need) {
         return need;

@@ -12,7 +12,7 @@ use Rattle.loads.proofs.all_loads.Tie as tie
 
 abbrev Inv-loop : tie.InvT-loop
 Inv-loop loads₀ file t table z i₀ loads i =
-    (i ≤ t .nodes) × (length loads ≡ 24576) × FilledFrom loads (arrayOf file t) (tableOf table z) i
+    (i ≤ t .nodes) × (length loads ≡ 24578) × FilledFrom loads (arrayOf file t) (tableOf table z) i
 
 abbrev μ-loop : tie.MeasureT-loop
 μ-loop loads₀ file t table z i₀ loads i = i

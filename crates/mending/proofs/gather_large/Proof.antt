@@ -47,8 +47,6 @@ returns c =
         _,
         record {
           old = now (at-start (at-shared-slice-known2 (at-gather-arg (at-needs2 (c .before)))) .args .rows);
-          size = p .0 .1 .lists .manyRows;
-          more = λ v o h e. e;
           since = λ v o h off on. absurd (true≢false (sym on ∙ off));
           gathered = g .ensures bounds;
         },

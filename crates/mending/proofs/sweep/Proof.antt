@@ -71,7 +71,7 @@ mend-node-requires c κs =
     let k = at-needs2 (at-loop (at-mend-node-arg2 (c .before .before))) .before .gather in
     let b = at-large2 (at-arities (at-needs2 (at-loop (at-mend-node-arg2 (c .before .before))))) .before .gather-large .ensures in (
       (given-again (p .0) (a .size), a .marks ∙ p .1, p .2, omega (arith, c .before .before .before .before .before .before .before .before .if1 .taken)),
-      ((now (s .args .chosen), stale-grew (stale-now (p .0) (k .ensures (now (s .args .bounds)))) a), b .0, b .1),
+      ((now (s .args .chosen), stale-grew (stale-now (k .ensures (now (s .args .bounds)))) a), b .0, b .1),
     )
 
 loop-again : tie.Need-loop-again Inv-loop μ-loop
@@ -88,7 +88,7 @@ loop-again c =
       omega (arith, at-mend-node-arg2 (at-unions3 (c .before .before .before)) .before .before .if1 .taken),
       grew-trans a (m .0),
       swept-more (given-again (p .0) (a .size)) (l .names) (now (x .chosen)) (now (x .reach)) (l .i) (l .inv .2) (m .0)
-          (m .1 (now (x .chosen)) (stale-grew (stale-now (p .0) (k .ensures (now (x .bounds)))) a) (b .0, b .1, stale-grew (b .2) a)),
+          (m .1 (now (x .chosen)) (stale-grew (stale-now (k .ensures (now (x .bounds)))) a) (b .0, b .1, stale-grew (b .2) a)),
     )
 
 same-length : tie.Need-same-length Inv-loop μ-loop
