@@ -24,7 +24,7 @@ fn all_bounds(bounds: &mut [u32], table: &[u8], z: Sizes)
     }
 }
 
-// Loads and bounds. Rows are read by those who lend them: written where they are lent, they lie where a machine reads several words at once.
+// Loads and bounds. Beside rows that were read (by flows) they stand for the table.
 pub fn fill_lists(
     loads: &mut [u32],
     bounds: &mut [u32],
