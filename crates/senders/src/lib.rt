@@ -29,8 +29,8 @@ fn one_more(x: u8) -> u8 {
     x + 1
 }
 
-// The set of a node whose record is r: by its arity or, where it is to be fine, by its channel, of which sixteen senders in order are in one set and
-// the next sixteen in another.
+// The set of a node whose record is r: by its arity or, where it is to be fine, by its channel, of which eight senders in order are in one set and
+// the next eight in another.
 fn set_of(seen: &mut [u8], fine: bool, r: Record) -> usize
     requires { ⌜ length (now seen) ≡ 256 ⌝ }
     ensures { λ g. ⌜ g < 12 ⌝ }
@@ -41,7 +41,7 @@ fn set_of(seen: &mut [u8], fine: bool, r: Record) -> usize
     let c = r.name % 256;
     let before = wire::byte_index(seen[c]);
     seen[c] = one_more(seen[c]);
-    (c + before / 16) % 12
+    (c + before / 8) % 12
 }
 
 // ---- which senders are gathered
