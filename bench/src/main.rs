@@ -160,6 +160,7 @@ fn mendings() {
     mend("fleet, all rows empty", &designs::emptied(designs::fleet(FLEET)), 0);
     mend("fleet_mixed, all rows empty", &designs::emptied(designs::fleet_mixed(FLEET)), 0);
     mend("flooded", &designs::flooded(), 0);
+    mend("flooded_spread", &designs::flooded_spread(24), 0);
     mend("sent_on", &designs::sent_on(255), 0);
     mend("own_channels", &designs::own_channels(128), 0);
     mend("received_on", &designs::received_on(254), 0);

@@ -133,6 +133,25 @@ pub fn within_rows(nodes: usize, names: usize, balances: usize) -> Files {
     weighed(&records, &all_but_one(names), &weights, balances)
 }
 
+/// `flooded`, all rows empty, with a heavy sender after every eighth that sends a channel which no parameter gets.
+pub fn flooded_spread(balances: usize) -> Files {
+    let (channel, idle, news) = (0, 1, 128);
+    let sent = |i: usize| (0..8).map(|k| (2 + (i + k) % (news - 2)) as u8).collect();
+    let params = |i: usize| (0..8).map(|k| (news + 8 * i + k) as u8).collect();
+    let receivers: Vec<Agent> = (0..16).map(|i| (IN, channel, params(i))).collect();
+    let mut senders = vec![];
+    for i in 0..news {
+        senders.push(((OUT, channel, sent(i)), SENDER));
+        if i % 8 == 7 {
+            senders.push(((IN, idle, vec![]), SENDER));
+            senders.push(((OUT, channel, vec![channel as u8; 8]), HEAVY[i / 8 % 2]));
+        }
+    }
+    let (senders, of_senders): (Vec<Agent>, Vec<Weights>) = senders.into_iter().unzip();
+    let weights = [vec![RECEIVER; receivers.len()], of_senders].concat();
+    weighed(&two_chains(news, &receivers, &senders), &[[0; 4]; 256], &weights, balances)
+}
+
 /// `pairs`, but weights 1 and 2 take turns. Every second pair weighs 4 in half of the balances, and just these pairs
 /// would break rule 4 in the other half.
 pub fn ended(nodes: usize, balances: usize) -> Files {

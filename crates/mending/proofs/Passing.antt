@@ -45,13 +45,13 @@ in-reach g {p} hp rp = marked-any _ (omega (arith, name-row g hp (agent-p g hp r
 
 -- ---- after the first pass, and after another
 
-pub clean-first : {S : Setting} → Given S → (names : List ℕ) → Swept S names everyName everyName (S .t .nodes) → Clean S names
+pub clean-first : {S : Setting} → Given S → (names : List ℕ) → Swept S names everyName everyName true (S .t .nodes) → Clean S names
 clean-first {S} g names swept p q hp hq rp e =
     swept (p .number) (hp .below) p hp refl rp (in-reach g hp rp) q hq (sends-any g hq (sends-if S p q e)) e
 
 module _ {S : Setting} (g : Given S) (old : List ℕ) (clean : Clean S old) {C : Rows → Type 0} {rows₁ names₁ rows₂ names₂ : List ℕ}
-    (a : Grew C (S .rows) (replicate 4 0) rows₁ names₁) (first : Swept (regrown S rows₁) names₁ everyName old (S .t .nodes))
-    (b : Grew C rows₁ names₁ rows₂ names₂) (second : Swept (regrown S rows₂) names₂ old everyName (S .t .nodes)) where
+    (a : Grew C (S .rows) (replicate 4 0) rows₁ names₁) (first : Swept (regrown S rows₁) names₁ everyName old true (S .t .nodes))
+    (b : Grew C rows₁ names₁ rows₂ names₂) (second : Swept (regrown S rows₂) names₂ old old false (S .t .nodes)) where
   h₁ : Given (regrown S rows₁)
   h₁ = given-again g (a .size)
 
@@ -63,9 +63,9 @@ module _ {S : Setting} (g : Given S) (old : List ℕ) (clean : Clean S old) {C :
             let before : Noted S (replicate 4 0) p q = λ k. absurd (true≢false (sym (clean p q hp hq rp k) ∙ off)) in
             noted-grew h₁ hp rp hq b (noted-grew g hp rp hq a before) e
         | inl on ↦
-            elim (or-split (marked old 0 (p .node .name)) (marked old 0 (q .node .name) || sendsMarked old (q .node)) on) [
+            elim (decided (marked old 0 (p .node .name))) [
               | inl x ↦ noted-grew h₁ hp rp hq b (first (p .number) (hp .below) p hp refl rp x q hq (sends-any g hq sends)) e
-              | inr x ↦ second (p .number) (hp .below) p hp refl rp (in-reach g hp rp) q hq (and-join sends x) e
+              | inr x ↦ second (p .number) (hp .below) p hp refl rp x q hq (and-join sends (rw x at on)) e
             ]
       ]
 

@@ -3,7 +3,7 @@
 use Prim.Native.Nat.{ℕ, _+_, _<_}
 use mathlib.Core.Path.{_≡_, sym, ap, _∙_, subst}
 use mathlib.Core.Logic.{inl, inr}
-use mathlib.Core.Bool.{true, false, not, true≢false, false≢true}
+use mathlib.Core.Bool.{Bool, true, false, not, true≢false, false≢true}
 use mathlib.Core.List.{List}
 use lib.ListN.{getD}
 use borrow.Author.Count.{below-more}
@@ -117,17 +117,17 @@ idle-noted S names p q rp e k =
     absurd (false≢true (rw none at b))
 
 -- what holds of the record that was read
-pub node-noted : (S : Setting) (names chosen reach : List ℕ) (i : ℕ) (r : Record) → r ≡ recordOf (S .f) (S .t) i
-    → (isReceiver (nodeOf r) ≡ true → marked reach 0 (r .name) ≡ true → AllNoted S names chosen record { number = i; node = r })
-    → NodeNoted S names chosen reach i
-node-noted S names chosen reach i r is f p hp e rp on =
+pub node-noted : (S : Setting) (names chosen reach : List ℕ) (on : Bool) (i : ℕ) (r : Record) → r ≡ recordOf (S .f) (S .t) i
+    → (isReceiver (nodeOf r) ≡ true → marked reach 0 (r .name) ≡ on → AllNoted S names chosen record { number = i; node = r })
+    → NodeNoted S names chosen reach on i
+node-noted S names chosen reach on i r is f p hp e rp there =
     let same : r ≡ p .node = is ∙ ap (λ (n : ℕ). recordOf (S .f) (S .t) n) (sym e) ∙ sym (hp .is) in
     subst (λ (x : Side). AllNoted S names chosen x) (λ z. record { number = sym e z; node = same z })
-    (f (ap (λ (x : Record). isReceiver (nodeOf x)) same ∙ rp) (ap (λ (x : Record). marked reach 0 (x .name)) same ∙ on))
+    (f (ap (λ (x : Record). isReceiver (nodeOf x)) same ∙ rp) (ap (λ (x : Record). marked reach 0 (x .name)) same ∙ there))
 
-pub swept-more : {S : Setting} → Given S → {C : Rows → Type 0} {rows′ names′ : List ℕ} (names chosen reach : List ℕ) (n : ℕ)
-    → Swept S names chosen reach n → Grew C (S .rows) names rows′ names′ → NodeNoted (regrown S rows′) names′ chosen reach n
-    → Swept (regrown S rows′) names′ chosen reach (n + 1)
-swept-more {S} g {C} {rows′} {names′} names chosen reach n before a here =
-    below-more (λ x. NodeNoted (regrown S rows′) names′ chosen reach x) n
-    (λ x l p hp e rp on q hq by. noted-grew g hp rp hq a (before x l p hp e rp on q hq by)) here
+pub swept-more : {S : Setting} → Given S → {C : Rows → Type 0} {rows′ names′ : List ℕ} (names chosen reach : List ℕ) (on : Bool) (n : ℕ)
+    → Swept S names chosen reach on n → Grew C (S .rows) names rows′ names′ → NodeNoted (regrown S rows′) names′ chosen reach on n
+    → Swept (regrown S rows′) names′ chosen reach on (n + 1)
+swept-more {S} g {C} {rows′} {names′} names chosen reach on n before a here =
+    below-more (λ x. NodeNoted (regrown S rows′) names′ chosen reach on x) n
+    (λ x l p hp e rp there q hq by. noted-grew g hp rp hq a (before x l p hp e rp there q hq by)) here

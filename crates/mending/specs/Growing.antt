@@ -101,14 +101,14 @@ SetNoted S names chosen sets p g =
 abbrev pub AllNoted : Setting → List ℕ → List ℕ → Side → Type 0
 AllNoted S names chosen p = (q : Side) → Held S q → sendsBy chosen (q .node) ≡ true → Noted S names p q
 
--- those of node i, where it receives on a name in `reach`
-abbrev pub NodeNoted : Setting → List ℕ → List ℕ → List ℕ → ℕ → Type 0
-NodeNoted S names chosen reach i =
-    (p : Side) → Held S p → p .number ≡ i → isReceiver (nodeOf (p .node)) ≡ true → marked reach 0 (p .node .name) ≡ true → AllNoted S names chosen p
+-- those of node i, where it receives on a name in `reach`, or on another
+abbrev pub NodeNoted : Setting → List ℕ → List ℕ → List ℕ → Bool → ℕ → Type 0
+NodeNoted S names chosen reach on i =
+    (p : Side) → Held S p → p .number ≡ i → isReceiver (nodeOf (p .node)) ≡ true → marked reach 0 (p .node .name) ≡ on → AllNoted S names chosen p
 
 -- those of the nodes below n
-abbrev pub Swept : Setting → List ℕ → List ℕ → List ℕ → ℕ → Type 0
-Swept S names chosen reach n = (i : ℕ) → i < n → NodeNoted S names chosen reach i
+abbrev pub Swept : Setting → List ℕ → List ℕ → List ℕ → Bool → ℕ → Type 0
+Swept S names chosen reach on n = (i : ℕ) → i < n → NodeNoted S names chosen reach on i
 
 -- all pairs
 abbrev pub Clean : Setting → List ℕ → Type 0

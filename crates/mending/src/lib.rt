@@ -231,9 +231,11 @@ fn mend_receiver(
     }
 }
 
-// The pairs of node i, where it receives on a name that is marked in `reach`, and all senders that were gathered: large sets are asked before small ones.
+// The pairs of node i, where it receives on a name that is marked in `reach` (or, where `on` is false, is not), and all senders that were gathered: large
+// sets are asked before small ones.
 fn mend_node(
     reach: &[u64],
+    on: bool,
     rows: &mut [u64],
     names: &mut [u64],
     file: &[u8],
@@ -260,7 +262,7 @@ fn mend_node(
         → LargeSets (now (file .entry)) t balances (now (rows .entry)) (now (loads .entry)) (now (bounds .entry)) (now (names .entry)) chosen
         (now (large .entry)) (now (lengths .entry))
         → NodeNoted (setting (now (file .entry)) t balances (now (rows .exit)) (now (loads .entry)) (now (bounds .entry))) (now (names .exit)) chosen
-        (now (reach .entry)) i) ⌝ }
+        (now (reach .entry)) on i) ⌝ }
 {
     let p = Side {
         number: i,
@@ -269,7 +271,7 @@ fn mend_node(
     if pairs::figures(3, balances, p.node) == 0 {
         return;
     }
-    if !marks::is_marked(reach, 0, p.node.name) {
+    if marks::is_marked(reach, 0, p.node.name) != on {
         return;
     }
     if sets_clear(large, lengths, rows, p) {
@@ -326,11 +328,12 @@ fn gather_large(
     );
 }
 
-// The pairs of a receiver on a name that is marked in `reach` and a sender that uses a name that is marked in `chosen`. Rule 3 asks for no needs; the sets
-// have them for rule 4.
+// The pairs of a receiver on a name that is marked in `reach` (or, where `on` is false, is not) and a sender that uses a name that is marked in `chosen`.
+// Rule 3 asks for no needs; the sets have them for rule 4.
 fn sweep(
     chosen: &[u64],
     reach: &[u64],
+    on: bool,
     rows: &mut [u64],
     names: &mut [u64],
     file: &[u8],
@@ -344,7 +347,7 @@ fn sweep(
     ensures { λ _. ⌜ Grew (RuleThree (setting (now (file .entry)) t balances (now (rows .entry)) (now (loads .entry)) (now (bounds .entry))))
         (now (rows .entry)) (now (names .entry)) (now (rows .exit)) (now (names .exit)) ⌝ }
     ensures { λ _. ⌜ Swept (setting (now (file .entry)) t balances (now (rows .exit)) (now (loads .entry)) (now (bounds .entry))) (now (names .exit))
-        (now (chosen .entry)) (now (reach .entry)) (t .nodes) ⌝ }
+        (now (chosen .entry)) (now (reach .entry)) on (t .nodes) ⌝ }
 {
     let mut large = [0u64; 432];
     let mut lengths = [0u64; 4];
@@ -380,6 +383,7 @@ fn sweep(
     while i < t.nodes {
         mend_node(
             reach,
+            on,
             rows,
             names,
             file,
@@ -399,7 +403,8 @@ fn sweep(
     }
 }
 
-// A pass: the pairs that use a name of `old`. Answers the names whose rows changed.
+// A pass: the pairs that use a name of `old`, each once: receivers on such a name beside every sender, the other receivers beside senders that use one.
+// Answers the names whose rows changed.
 fn pass(
     old: &[u64],
     rows: &mut [u64],
@@ -420,6 +425,7 @@ fn pass(
     sweep(
         &every,
         old,
+        true,
         rows,
         &mut names,
         file,
@@ -430,7 +436,8 @@ fn pass(
     );
     sweep(
         old,
-        &every,
+        old,
+        false,
         rows,
         &mut names,
         file,
@@ -461,6 +468,7 @@ fn first_pass(
     sweep(
         &every,
         &every,
+        true,
         rows,
         &mut names,
         file,

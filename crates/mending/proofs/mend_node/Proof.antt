@@ -2,8 +2,7 @@
 use denote.Ref.{now}
 use Prim.Native.Nat.{ℕ}
 use mathlib.Core.Path.{_≡_, sym, _∙_}
-use mathlib.Core.Bool.{true, true≢false}
-use borrow.Author.Tests.{not-true}
+use mathlib.Core.Bool.{Bool, true, false, not, Bool·beq, true≢false}
 use borrow.Author.Needs.{needs}
 use native.Mathlib.Omega.{arith}
 use Rattle.laws.proofs.Search.{every-true}
@@ -38,6 +37,13 @@ module _ (c : tie.After-node-at) where
   held : Held given record { number = s .args .i; node = c .node-at .result }
   held = record { below = s .pre .0 .3; is = c .node-at .ensures }
 
+-- what is equal does not differ
+differs : (a b : Bool) → a ≡ b → not (Bool·beq a b) ≡ true → true ≡ false
+differs true true e k = sym k
+differs true false e k = e
+differs false true e k = sym e
+differs false false e k = sym k
+
 -- a node with figures receives
 receiver : (c : tie.Else1) → isReceiver (nodeOf (c .before .before .node-at .result)) ≡ true
 receiver c =
@@ -53,7 +59,7 @@ returns c =
     let e = sym (c .before .figures .ensures) ∙ c .if1 .taken in (
       grew-same _ _ _,
       λ chosen k large.
-          node-noted (given n) _ chosen _ (s n .args .i) (n .node-at .result) (n .node-at .ensures) (λ rp on q hq by.
+          node-noted (given n) _ chosen _ (s n .args .on) (s n .args .i) (n .node-at .result) (n .node-at .ensures) (λ rp there q hq by.
           idle-noted (given n) _ record { number = s n .args .i; node = n .node-at .result } q rp e),
     )
 
@@ -66,10 +72,11 @@ is-marked-requires c κs =
 returns-2 : tie.Need-returns-2
 returns-2 c =
     let n = c .before .before .before .before in
-    let off = sym (c .before .is-marked .ensures) ∙ not-true _ (c .if2 .taken) in (
+    let off = c .if2 .taken in (
       grew-same _ _ _,
       λ chosen k large.
-          node-noted (given n) _ chosen _ (s n .args .i) (n .node-at .result) (n .node-at .ensures) (λ rp on. absurd (true≢false (sym on ∙ off))),
+          node-noted (given n) _ chosen _ (s n .args .on) (s n .args .i) (n .node-at .result) (n .node-at .ensures) (λ rp there.
+          absurd (true≢false (differs _ _ (c .before .is-marked .ensures ∙ there) off))),
     )
 
 sets-clear-requires : tie.Need-sets-clear-requires
@@ -97,7 +104,7 @@ returns-3 c =
       grew-same _ _ _,
       λ chosen k large.
           let b = large .2 in
-          node-noted (given n) _ chosen _ (x .i) (n .node-at .result) (n .node-at .ensures) (λ rp on q hq by.
+          node-noted (given n) _ chosen _ (x .on) (x .i) (n .node-at .result) (n .node-at .ensures) (λ rp there q hq by.
           clear-noted (s n .pre .0 .0) (held n) rp b hq by
           (every-true 12 p clear (b .gathered .sets (q .number)) (b .gathered .few (q .number)))),
     )
@@ -124,8 +131,8 @@ returns-4 c =
     let l = r .mend-receiver .last in (
       r .mend-receiver .ensures .0,
       λ chosen k large.
-          node-noted (setting (now (x .file)) (x .t) (x .balances) (l .0) (now (x .loads)) (now (x .bounds))) (l .1 .0) chosen (now (x .reach)) (x .i)
-          (n .node-at .result) (n .node-at .ensures) (λ rp on. r .mend-receiver .ensures .1 chosen k),
+          node-noted (setting (now (x .file)) (x .t) (x .balances) (l .0) (now (x .loads)) (now (x .bounds))) (l .1 .0) chosen (now (x .reach)) (x .on) (x .i)
+          (n .node-at .result) (n .node-at .ensures) (λ rp there. r .mend-receiver .ensures .1 chosen k),
     )
 
 pub mend-node-spec : {M : Type 1} → statement M

@@ -1,4 +1,4 @@
--- Receivers on a name of `old` beside every sender, then every receiver beside the senders that use one.
+-- Receivers on a name of `old` beside every sender, then the other receivers beside the senders that use one.
 use denote.Ref.{now}
 use mathlib.Core.Path.{refl, _∙_}
 use borrow.Author.Needs.{needs}
@@ -18,7 +18,7 @@ at-shared-slice-known3 c = c .before .before .before .before
 abbrev at-start : tie.After-shared-slice-known3 → tie.Start
 at-start c = c .before .before .before .before
 
-abbrev at-names2 : tie.After-sweep2 → tie.After-names2
+abbrev at-names2 : tie.After-rows2 → tie.After-names2
 at-names2 c = c .before .before .before .before
 
 sweep-requires : tie.Need-sweep-requires
@@ -26,17 +26,17 @@ sweep-requires c κs = let p = c .before .before .before .before .before .before
 
 sweep-requires-2 : tie.Need-sweep-requires-2
 sweep-requires-2 c κs =
-    let w = c .before .before .before .before .before .before .sweep .ensures .0 in
-    let p = at-start (at-shared-slice-known3 (at-names (c .before .before .before))) .pre in
-    (given-again (p .0) (w .size), w .marks, refl, p .1 .0)
+    let w = c .before .before .before .before .before .sweep .ensures .0 in
+    let p = at-start (at-shared-slice-known3 (at-names (c .before .before))) .pre in
+    (given-again (p .0) (w .size), w .marks, p .1 .0, p .1 .0)
 
 same-length : tie.Need-same-length
-same-length c = c .before .before .before .sweep2 .ensures .0 .size ∙ at-names2 (c .before .before .before) .before .before .before .sweep .ensures .0 .size
+same-length c = c .before .before .before .sweep2 .ensures .0 .size ∙ at-names2 (c .before .before) .before .before .before .sweep .ensures .0 .size
 
 returns : tie.Need-returns
 returns c =
-    let s = at-start (at-shared-slice-known3 (at-names (at-names2 (c .before .before .before)))) in
-    let w = at-names2 (c .before .before .before) .before .before .before .sweep .ensures in
+    let s = at-start (at-shared-slice-known3 (at-names (at-names2 (c .before .before)))) in
+    let w = at-names2 (c .before .before) .before .before .before .sweep .ensures in
     let v = c .before .before .before .sweep2 .ensures in
     (grew-trans (w .0) (v .0), clean-pass (s .pre .0) (now (s .args .old)) (s .pre .1 .1) (w .0) (w .1) (v .0) (v .1))
 
@@ -44,4 +44,4 @@ pub pass-spec : {M : Type 1} → statement M
 pass-spec =
     tie.close
     (tie.spec
-    (λ c. search needs) (λ c. search needs) sweep-requires (λ c. search needs) (λ c. search needs) sweep-requires-2 same-length returns)
+    (λ c. search needs) (λ c. search needs) sweep-requires (λ c. search needs) sweep-requires-2 same-length returns)

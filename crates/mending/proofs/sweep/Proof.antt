@@ -14,13 +14,13 @@ use Rattle.mending.proofs.sweep.Statement.{statement}
 use Rattle.mending.proofs.sweep.Tie as tie
 
 abbrev Inv-loop : tie.InvT-loop
-Inv-loop chosen reach rows₀ names₀ file t balances loads bounds large lengths needs unions arities links i₀ rows names i =
+Inv-loop chosen reach on rows₀ names₀ file t balances loads bounds large lengths needs unions arities links i₀ rows names i =
     (i ≤ t .nodes)
     × Grew (RuleThree (setting file t balances rows₀ loads bounds)) rows₀ names₀ rows names
-    × Swept (setting file t balances rows loads bounds) names chosen reach i
+    × Swept (setting file t balances rows loads bounds) names chosen reach on i
 
 abbrev μ-loop : tie.MeasureT-loop
-μ-loop chosen reach rows₀ names₀ file t balances loads bounds large lengths needs unions arities links i₀ rows names i = t .nodes - i
+μ-loop chosen reach on rows₀ names₀ file t balances loads bounds large lengths needs unions arities links i₀ rows names i = t .nodes - i
 
 -- stations
 abbrev at-slice-known2 : tie.After-large Inv-loop μ-loop → tie.After-slice-known2 Inv-loop μ-loop
@@ -87,7 +87,7 @@ loop-again c =
     let m = c .before .before .before .before .mend-node .ensures in (
       omega (arith, at-mend-node-arg2 (at-unions3 (c .before .before .before)) .before .before .if1 .taken),
       grew-trans a (m .0),
-      swept-more (given-again (p .0) (a .size)) (l .names) (now (x .chosen)) (now (x .reach)) (l .i) (l .inv .2) (m .0)
+      swept-more (given-again (p .0) (a .size)) (l .names) (now (x .chosen)) (now (x .reach)) (x .on) (l .i) (l .inv .2) (m .0)
           (m .1 (now (x .chosen)) (stale-grew (stale-now (k .ensures (now (x .bounds)))) a) (b .0, b .1, stale-grew (b .2) a)),
     )
 
