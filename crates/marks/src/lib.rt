@@ -101,7 +101,7 @@ fn join_word(one: &mut [u64], u: usize, other: &[u64], v: usize, w: usize)
 }
 
 // Row u, alone.
-pub fn row_at(rows: &[u64], u: usize) -> [u64; 4]
+fn row_at(rows: &[u64], u: usize) -> [u64; 4]
     requires { ⌜ HasRow (now rows) u ⌝ }
     ensures { λ r. ⌜ Copied (now (rows .entry)) u r ⌝ }
 {

@@ -1,18 +1,20 @@
--- Rows that grow: in no step, in two steps, by one row, and what a pair keeps while they do.
+-- Rows that grow: in no step, in two steps, by one row, by those of all parameters.
 use Prim.Native.Nat.{ℕ, _+_, _<_}
+use native.Mathlib.Omega.{arith}
 use mathlib.Core.Path.{_≡_, refl, sym, ap, _∙_, subst}
 use mathlib.Core.Logic.{_⊎_, inl, inr}
 use mathlib.Core.Bool.{Bool, true, false, not, _&&_, _||_, true≢false}
+use mathlib.Core.Bool as bools
 use mathlib.Core.List.{List}
-use lib.Dec.{eqb}
+use lib.Dec.{eqb, ltb}
 use lib.ListN.{length, getD}
 use borrow.Author.Count.{below-more}
-use borrow.Author.Tests.{eqb-true, eq-eqb, not-true, not-false}
-use Rattle.laws.proofs.Search.{decided, and-split, and-join, or-split, or-left, or-right, or-false, every-false}
-use Rattle.marks.specs.Marks.{marked, markIf, inside, Copied, Joined}
-use Rattle.marks.proofs.Laws.{marked-more, markIf-length, inside-marked, marked-inside}
+use borrow.Author.Tests.{eqb-true, eqb-false, ltb-true, lt-ltb, le-ltb, not-true, not-false}
+use Rattle.laws.proofs.Search.{decided, and-split, and-join, or-split, or-left, or-right, or-false, every-false, same-test}
+use Rattle.marks.specs.Marks.{marked, markIf, inside, Joined}
+use Rattle.marks.proofs.Laws.{marked-more, markIf-length, inside-marked, join-adds}
 use Rattle.model.specs.Mend.{Rows}
-use Rattle.mending.specs.Growing.{Below, Grew, Added, Matched, Settled}
+use Rattle.mending.specs.Growing.{Below, Grew, Added, Takes}
 
 -- ---- no step, two steps, a weaker property
 
@@ -73,138 +75,120 @@ module _ {C : Rows → Type 0} {rows names rows₁ names₁ : List ℕ} (a : Gre
     least = λ M d l. a .least M (f M d l) l;
   }
 
+-- ---- a test of numbers below n
+
+pub below-none-or : (a : Bool) (x : ℕ) (b : Bool) → a ≡ a || (ltb x 0 && b)
+below-none-or a x b = rw (le-ltb x 0 (omega arith)) (sym (bools.or-false a))
+
+pub below-or : (a : Bool) (x n : ℕ) (f : ℕ → Bool) → (a || (ltb x n && f x)) || (eqb x n && f n) ≡ a || (ltb x (n + 1) && f x)
+below-or a x n f = go (decided (eqb x n))
+  where
+    go : (eqb x n ≡ true) ⊎ (eqb x n ≡ false) → (a || (ltb x n && f x)) || (eqb x n && f n) ≡ a || (ltb x (n + 1) && f x)
+    go (inl e) = rw (e, eqb-true x n e, le-ltb n n (omega arith), lt-ltb n (n + 1) (omega arith), bools.or-false a)
+    go (inr e) = rw (e, below) (bools.or-false (a || (ltb x (n + 1) && f x)))
+      where
+        below : ltb x n ≡ ltb x (n + 1)
+        below =
+            let other = eqb-false x n e in
+            same-test _ _ (λ k. lt-ltb x (n + 1) (omega (arith, ltb-true x n k))) (λ k. lt-ltb x n (omega (arith, ltb-true x (n + 1) k, other)))
+
 -- ---- one row
 
--- what a row lacks of another
-lacks : (rows : List ℕ) (v u : ℕ) → inside rows v rows u ≡ false → (o : ℕ) × (o < 256) × (marked rows v o ≡ true) × (marked rows u o ≡ false)
+-- what a row lacks of another list's
+lacks : (from : List ℕ) (v : ℕ) (rows : List ℕ) (u : ℕ) → inside from v rows u ≡ false
+    → (o : ℕ) × (o < 256) × (marked from v o ≡ true) × (marked rows u o ≡ false)
 unfolding inside
-lacks rows v u e =
+lacks from v rows u e =
     let x = every-false 256 _ e in
     let y = or-false _ _ (x .2) in
     (x .0, x .1, not-false _ (y .0), y .1)
 
-not-inside : (rows : List ℕ) (v u o : ℕ) → o < 256 → marked rows v o ≡ true → marked rows u o ≡ false → inside rows v rows u ≡ false
-not-inside rows v u o h on off =
-    elim (decided (inside rows v rows u)) [ inl e ↦ absurd (true≢false (sym (inside-marked rows v rows u e o h on) ∙ off)) | inr e ↦ e ]
+not-inside : (from : List ℕ) (v : ℕ) (rows : List ℕ) (u o : ℕ) → o < 256 → marked from v o ≡ true → marked rows u o ≡ false → inside from v rows u ≡ false
+not-inside from v rows u o h on off =
+    elim (decided (inside from v rows u)) [ inl e ↦ absurd (true≢false (sym (inside-marked from v rows u e o h on) ∙ off)) | inr e ↦ e ]
 
 -- ---- what is added
 
-module _ (rows names : List ℕ) (u v : ℕ) where
-  pub added-none : inside rows v rows u ≡ true → Added rows names u v rows names
+module _ (rows names : List ℕ) (u : ℕ) (from : List ℕ) (v : ℕ) where
+  pub added-none : inside from v rows u ≡ true → Added rows names u from v rows names
   unfolding markIf
   added-none e = record {
-    size = refl;
-    is = λ x o h. same x o h (decided (eqb x u && marked rows v o));
+    joined = record { rows = λ x o h. same x o h (decided (eqb x u && marked from v o)); size = refl };
     noted = rw e;
   }
     where
-      same : (x o : ℕ) → o < 256 → (eqb x u && marked rows v o ≡ true) ⊎ (eqb x u && marked rows v o ≡ false)
-          → marked rows x o ≡ marked rows x o || (eqb x u && marked rows v o)
+      same : (x o : ℕ) → o < 256 → (eqb x u && marked from v o ≡ true) ⊎ (eqb x u && marked from v o ≡ false)
+          → marked rows x o ≡ marked rows x o || (eqb x u && marked from v o)
       same x o h (inl k) =
           let s = and-split (eqb x u) _ k in
-          let on : marked rows x o ≡ true = subst (λ (y : ℕ). marked rows y o ≡ true) (sym (eqb-true x u (s .0))) (inside-marked rows v rows u e o h (s .1)) in
+          let on : marked rows x o ≡ true = subst (λ (y : ℕ). marked rows y o ≡ true) (sym (eqb-true x u (s .0))) (inside-marked from v rows u e o h (s .1)) in
           rw on
-      same x o h (inr k) = rw k (either (marked rows x o))
-        where
-          either : (b : Bool) → b ≡ b || false
-          either true = refl
-          either false = refl
+      same x o h (inr k) = rw k (sym (bools.or-false (marked rows x o)))
 
-  pub added-row : inside rows v rows u ≡ false → (row rows′ : List ℕ) → Copied rows v row → Joined rows rows′ u row 0
-      → Added rows names u v rows′ (markIf names true u)
-  added-row e row rows′ copied j = record {
-    size = j .size;
-    is = λ x o h. j .rows x o h ∙ ap (λ (b : Bool). marked rows x o || (eqb x u && b)) (copied o h);
-    noted = rw e;
-  }
+  pub added-row : inside from v rows u ≡ false → (rows′ : List ℕ) → Joined rows rows′ u from v → Added rows names u from v rows′ (markIf names true u)
+  added-row e rows′ j = record { joined = j; noted = rw e }
 
--- what asks row u for row v
-abbrev pub Asks : ℕ → ℕ → Rows → Type 0
-Asks u v M = (o : ℕ) → o < 256 → M v o ≡ true → M u o ≡ true
+-- what asks row u for row v of another list
+abbrev pub Asks : ℕ → List ℕ → ℕ → Rows → Type 0
+Asks u from v M = (o : ℕ) → o < 256 → marked from v o ≡ true → M u o ≡ true
 
-module _ {rows names : List ℕ} {u v : ℕ} {rows′ names′ : List ℕ} (a : Added rows names u v rows′ names′) (four : length names ≡ 4) (small : u < 256) where
+module _ {rows names : List ℕ} {u : ℕ} {from : List ℕ} {v : ℕ} {rows′ names′ : List ℕ} (a : Added rows names u from v rows′ names′)
+    (four : length names ≡ 4) (small : u < 256) where
   -- the names that are noted
-  names-are : (x : ℕ) → marked names′ 0 x ≡ marked names 0 x || (not (inside rows v rows u) && eqb x u)
-  names-are x = ap (λ (l : List ℕ). marked l 0 x) (a .noted) ∙ marked-more names (not (inside rows v rows u)) u x four small
+  names-are : (x : ℕ) → marked names′ 0 x ≡ marked names 0 x || (not (inside from v rows u) && eqb x u)
+  names-are x = ap (λ (l : List ℕ). marked l 0 x) (a .noted) ∙ marked-more names (not (inside from v rows u)) u x four small
 
-  pub grew-added : Grew (Asks u v) rows names rows′ names′
+  pub grew-added : Grew (Asks u from v) rows names rows′ names′
   grew-added = record {
-    size = a .size;
+    size = a .joined .size;
     marks = ap length (a .noted) ∙ markIf-length names _ u;
-    more = λ x o h e. a .is x o h ∙ or-left _ _ e;
+    more = λ x o h e. a .joined .rows x o h ∙ or-left _ _ e;
     keeps = λ x e. names-are x ∙ or-left _ _ e;
     notes = λ x o h off on.
         let k = new x o h off on in
         let e = eqb-true x u (k .0) in
         names-are x ∙ or-right (marked names 0 x) _
-        (and-join (ap not (not-inside rows v u o h (k .1) (subst (λ (y : ℕ). marked rows y o ≡ false) e off))) (k .0));
+        (and-join (ap not (not-inside from v rows u o h (k .1) (subst (λ (y : ℕ). marked rows y o ≡ false) e off))) (k .0));
     earned = λ x off on.
         let k = earns x off on in
-        let l = lacks rows v u (not-true _ (k .0)) in
+        let l = lacks from v rows u (not-true _ (k .0)) in
         let e = eqb-true x u (k .1) in
         let off′ : marked rows x (l .0) ≡ false = subst (λ (y : ℕ). marked rows y (l .0) ≡ false) (sym e) (l .3) in
-        (l .0, l .1, off′, a .is x (l .0) (l .1) ∙ or-right (marked rows x (l .0)) _ (and-join (k .1) (l .2)));
+        (l .0, l .1, off′, a .joined .rows x (l .0) (l .1) ∙ or-right (marked rows x (l .0)) _ (and-join (k .1) (l .2)));
     least = λ M asks below x o h on.
-        elim (or-split (marked rows x o) (eqb x u && marked rows v o) (sym (a .is x o h) ∙ on)) [
+        elim (or-split (marked rows x o) (eqb x u && marked from v o) (sym (a .joined .rows x o h) ∙ on)) [
           | inl e ↦ below x o h e
           | inr e ↦
               let k = and-split (eqb x u) _ e in
-              subst (λ (y : ℕ). M y o ≡ true) (sym (eqb-true x u (k .0))) (asks o h (below v o h (k .1)))
+              subst (λ (y : ℕ). M y o ≡ true) (sym (eqb-true x u (k .0))) (asks o h (k .1))
         ];
   }
     where
-      new : (x o : ℕ) → o < 256 → marked rows x o ≡ false → marked rows′ x o ≡ true → (eqb x u ≡ true) × (marked rows v o ≡ true)
+      new : (x o : ℕ) → o < 256 → marked rows x o ≡ false → marked rows′ x o ≡ true → (eqb x u ≡ true) × (marked from v o ≡ true)
       new x o h off on =
-          elim (or-split (marked rows x o) (eqb x u && marked rows v o) (sym (a .is x o h) ∙ on)) [
+          elim (or-split (marked rows x o) (eqb x u && marked from v o) (sym (a .joined .rows x o h) ∙ on)) [
             | inl e ↦ absurd (true≢false (sym e ∙ off))
             | inr e ↦ and-split _ _ e
           ]
 
-      earns : (x : ℕ) → marked names 0 x ≡ false → marked names′ 0 x ≡ true → (not (inside rows v rows u) ≡ true) × (eqb x u ≡ true)
+      earns : (x : ℕ) → marked names 0 x ≡ false → marked names′ 0 x ≡ true → (not (inside from v rows u) ≡ true) × (eqb x u ≡ true)
       earns x off on =
-          elim (or-split (marked names 0 x) (not (inside rows v rows u) && eqb x u) (sym (names-are x) ∙ on)) [
+          elim (or-split (marked names 0 x) (not (inside from v rows u) && eqb x u) (sym (names-are x) ∙ on)) [
             | inl e ↦ absurd (true≢false (sym e ∙ off))
             | inr e ↦ and-split _ _ e
           ]
 
-  -- row v is contained then
-  pub added-inside : inside rows′ v rows′ u ≡ true
-  added-inside =
-      marked-inside rows′ v rows′ u (λ o h on.
-      elim (or-split (marked rows v o) (eqb v u && marked rows v o) (sym (a .is v o h) ∙ on)) [
-        | inl e ↦ a .is u o h ∙ or-right (marked rows u o) _ (and-join (eq-eqb u u refl) e)
-        | inr e ↦ a .is u o h ∙ or-right (marked rows u o) _ (and-join (eq-eqb u u refl) (and-split (eqb v u) _ e .1))
-      ])
-
--- ---- an argument that is contained, or noted, stays so
-module _ {C : Rows → Type 0} {rows names rows′ names′ : List ℕ} (a : Grew C rows names rows′ names′) (params sent : List ℕ) (m : ℕ) where
-  pub settled-grew : Settled rows names params sent m → Settled rows′ names′ params sent m
-  settled-grew s off =
-      let x = getD sent m 0 in
-      let y = getD params m 0 in
-      elim (decided (inside rows x rows y)) [
-        | inr e ↦ a .keeps x (s e)
-        | inl e ↦
-            let l = lacks rows′ x y off in
-            let was = was-off a y (l .0) (l .1) (l .3) in
-            elim (decided (marked rows x (l .0))) [
-              | inl on ↦ absurd (true≢false (sym (inside-marked rows x rows y e (l .0) (l .1) on) ∙ was))
-              | inr none ↦ a .notes x (l .0) (l .1) none (l .2)
-            ]
-      ]
-
--- ---- argument after argument
+-- ---- parameter after parameter
 module _ (count : ℕ) (params sent rows names : List ℕ) where
-  -- the first n arguments are matched
-  abbrev pub MatchedTo : ℕ → List ℕ → List ℕ → Type 0
-  MatchedTo n rows′ names′ =
-      Grew (Matched count params sent) rows names rows′ names′ × ((m : ℕ) → m < n → Settled rows′ names′ params sent m)
+  -- the rows of the first n parameters contain what is sent
+  abbrev pub TakenTo : ℕ → List ℕ → List ℕ → Type 0
+  TakenTo n rows′ names′ = Grew (Takes count params sent) rows names rows′ names′ × Takes n params sent (marked rows′)
 
-  pub matched-more : (n : ℕ) {rows₁ names₁ rows₂ names₂ : List ℕ} → MatchedTo n rows₁ names₁ → n < count
-      → Added rows₁ names₁ (getD params n 0) (getD sent n 0) rows₂ names₂ → length names₁ ≡ 4 → getD params n 0 < 256 → MatchedTo (n + 1) rows₂ names₂
-  matched-more n {rows₁} {names₁} {rows₂} {names₂} h few a four small =
-      let g = grew-by (grew-added a four small) (Matched count params sent) (λ M d l. d n few) in (
+  pub taken-more : (n : ℕ) {rows₁ names₁ rows₂ names₂ : List ℕ} → TakenTo n rows₁ names₁ → n < count
+      → Added rows₁ names₁ (getD params n 0) sent n rows₂ names₂ → length names₁ ≡ 4 → getD params n 0 < 256 → TakenTo (n + 1) rows₂ names₂
+  taken-more n {rows₁} {names₁} {rows₂} {names₂} h few a four small =
+      let g = grew-by (grew-added a four small) (Takes count params sent) (λ M d l. d n few) in (
         grew-trans (h .0) g,
-        below-more (Settled rows₂ names₂ params sent) n (λ m l. settled-grew g params sent m (h .1 m l))
-            (λ off. absurd (true≢false (sym (added-inside a four small) ∙ off))),
+        below-more (λ m. Asks (getD params m 0) sent m (marked rows₂)) n (λ m l o k on. g .more _ o k (h .1 m l o k on))
+            (λ o k on. inside-marked sent n rows₂ _ (join-adds _ _ _ _ _ (a .joined)) o k on),
       )

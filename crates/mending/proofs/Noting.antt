@@ -2,15 +2,15 @@
 use Prim.Native.Nat.{ℕ, _<_}
 use mathlib.Core.Path.{_≡_, refl, sym, ap, ap₂, _∙_, subst}
 use mathlib.Core.Logic.{inl, inr}
-use mathlib.Core.Bool.{Bool, true, false, not, _&&_, _||_, true≢false}
+use mathlib.Core.Bool.{Bool, true, false, _&&_, _||_, true≢false}
 use mathlib.Core.List.{List}
-use lib.Dec.{eqb}
+use lib.Dec.{eqb, ltb}
 use lib.ListN.{length, getD}
-use borrow.Author.Tests.{not-true}
+use borrow.Author.Tests.{lt-ltb, not-true, not-false}
 use Rattle.laws.specs.Search.{every}
 use Rattle.laws.proofs.Search.{decided, and-split, and-join, or-split, or-right, or-left, or-false, every-true, every-false, any-same, true-any}
 use Rattle.laws.proofs.Search.{any-false, any-true}
-use Rattle.marks.specs.Marks.{marked, share}
+use Rattle.marks.specs.Marks.{marked, share, inside}
 use Rattle.marks.proofs.Laws.{inside-marked, marked-inside}
 use Rattle.model.specs.Memory.{isOut}
 use Rattle.model.specs.Rules.{Live, within}
@@ -23,11 +23,11 @@ use Rattle.records.proofs.KindLaws.{sender-is}
 use Rattle.arrays.specs.Agents.{agentIn}
 use Rattle.arrays.proofs.Agents.{agent-is, arity-is}
 use Rattle.pairs.specs.declared.Side.{Side}
-use Rattle.pairs.specs.Pairs.{Setting, setting, Given, Held, arrayIn, tableIn, bearsBoth, argumentHolds, allHold, breaksPair}
+use Rattle.pairs.specs.Pairs.{Setting, setting, Given, Held, arrayIn, tableIn, bearsBoth, argumentHolds, breaksPair}
 use Rattle.pairs.proofs.Laws.{alive, live-near, meet-sends, live-is, agent-p, arities, arg-is}
 use Rattle.senders.specs.Sets.{sendsMarked}
-use Rattle.mending.specs.Growing.{Below, Grew, Matched, PairAnswer, RuleThree, touches, Noted}
-use Rattle.mending.proofs.Growth.{grew-same, grew-by, unnoted}
+use Rattle.mending.specs.Growing.{Below, Grew, SentIf, Takes, RuleThree, touches, Noted, Asked, Sends}
+use Rattle.mending.proofs.Growth.{unnoted}
 
 -- a setting with other rows
 abbrev pub regrown : Setting → List ℕ → Setting
@@ -69,35 +69,36 @@ module _ {S : Setting} (g : Given S) {p : Side} (hp : Held S p) (rp : isReceiver
         any-same 256 _ _ (λ o h.
         ap₂ _&&_ (unnoted a (p .node .name) (channel-off names′ p q off) o h) (unnoted a (q .node .name) (own-off names′ p q off) o h))
 
-    -- where no name is noted, the pair is live as it was, and breaks the rule only if it did
-    still : touches names′ p q ≡ false → breaksPair 3 (regrown S rows′) p q ≡ true → breaksPair 3 S p q ≡ true
-    still off e =
-        let l = was-live in
-        and-join l (ap not (fails (broken-at (regrown S rows′) p q e)))
-      where
-        was-live : alive S p q ≡ true
-        was-live =
-            ap (λ (b : Bool). (isOut (nodeOf (q .node)) && eqb (p .node .arity) (q .node .arity) && b)
-            && every (S .n) (bearsBoth (S .loads) (S .bounds) (p .number) (q .number))) (sym (same-share off))
-            ∙ broken-live (regrown S rows′) p q e
+    -- where no name is noted, a pair that breaks the rule was live before
+    was-live : touches names′ p q ≡ false → breaksPair 3 (regrown S rows′) p q ≡ true → alive S p q ≡ true
+    was-live off e =
+        ap (λ (b : Bool). (isOut (nodeOf (q .node)) && eqb (p .node .arity) (q .node .arity) && b)
+        && every (S .n) (bearsBoth (S .loads) (S .bounds) (p .number) (q .number))) (sym (same-share off))
+        ∙ broken-live (regrown S rows′) p q e
 
-        fails : (m : ℕ) × (m < p .node .arity) × (argumentHolds rows′ p q m ≡ false) → allHold 3 (S .n) (S .rows) (S .loads) p q ≡ false
-        fails x =
-            elim (decided (allHold 3 (S .n) (S .rows) (S .loads) p q)) [
-              | inr k ↦ k
-              | inl k ↦
-                  let m = x .0 in
-                  let few : m < q .node .arity = subst (λ (n : ℕ). m < n) (arities g hp rp hq (live-near S p q was-live)) (x .1) in
-                  absurd (true≢false (sym (marked-inside rows′ _ rows′ _ (λ o h on.
-                  a .more _ o h (inside-marked (S .rows) _ (S .rows) _ (every-true _ _ k m (x .1)) o h
-                  (sym (unnoted a _ (sent-off names′ p q off m few) o h) ∙ on)))) ∙ x .2))
-            ]
+    -- and one whose parameters contained what it sends uses a noted name
+    pub noted-taken : (alive S p q ≡ true → (m : ℕ) → m < p .node .arity → inside (S .rows) (getD (q .node .args) m 0) rows′ (getD (p .node .args) m 0) ≡ true)
+        → Noted (regrown S rows′) names′ p q
+    noted-taken takes e =
+        elim (decided (touches names′ p q)) [
+          | inl on ↦ on
+          | inr off ↦
+              let l = was-live off e in
+              let x = broken-at (regrown S rows′) p q e in
+              let m = x .0 in
+              let few : m < q .node .arity = subst (λ (n : ℕ). m < n) (arities g hp rp hq (live-near S p q l)) (x .1) in
+              absurd (true≢false (sym (marked-inside rows′ _ rows′ _ (λ o h on.
+              inside-marked (S .rows) _ rows′ _ (takes l m (x .1)) o h (sym (unnoted a _ (sent-off names′ p q off m few) o h) ∙ on))) ∙ x .2))
+        ]
 
     pub noted-grew : Noted S names p q → Noted (regrown S rows′) names′ p q
     noted-grew was e =
-        elim (decided (touches names′ p q)) [
-          | inl on ↦ on
-          | inr off ↦ absurd (true≢false (sym (wider (was (still off e))) ∙ off))
+        elim (decided (breaksPair 3 S p q)) [
+          | inl k ↦ wider (was k)
+          | inr k ↦
+              noted-taken (λ l m few.
+              let holds = every-true _ _ (not-false _ (rw l at k)) m few in
+              marked-inside (S .rows) _ rows′ _ (λ o h on. a .more _ o h (inside-marked (S .rows) _ (S .rows) _ holds o h on))) e
         ]
       where
         wider : touches names p q ≡ true → touches names′ p q ≡ true
@@ -117,8 +118,9 @@ module _ {S : Setting} (g : Given S) {p : Side} (hp : Held S p) (rp : isReceiver
 
   -- ---- a pair that was looked at
 
-  -- rows that meet rule 3 and contain these match the arguments of a live pair
-  matched : alive S p q ≡ true → (M : Rows) → RuleThree S M → Below (S .rows) M → Matched (p .node .arity) (p .node .args) (q .node .args) M
+  -- rows that meet rule 3 and contain these have what a live pair sends in the parameter's row
+  matched : alive S p q ≡ true → (M : Rows) → RuleThree S M → Below (S .rows) M → (m : ℕ) → m < p .node .arity → (o : ℕ) → o < 256
+      → M (getD (q .node .args) m 0) o ≡ true → M (getD (p .node .args) m 0) o ≡ true
   unfolding within
   matched l M rule below m few o h on =
       let agent = agent-p g hp rp hq in
@@ -136,32 +138,31 @@ module _ {S : Setting} (g : Given S) {p : Side} (hp : Held S p) (rp : isReceiver
       (rule (p .number) (hp .below) (q .number) (hq .below) P Q (agent-is (g .read) hp agent) (agent-is (g .read) hq other) more m few′ o h
       (subst (λ (x : ℕ). M x o ≡ true) (sym (arg-is (q .node) m also)) on))
 
-  module _ {names rows′ names′ : List ℕ} (x : PairAnswer (breaksPair 3 S p q) (p .node) (q .node) (S .rows) names rows′ names′) where
-    pub pair-grew : Grew (RuleThree S) (S .rows) names rows′ names′
-    pair-grew =
-        elim (decided (breaksPair 3 S p q)) [
-          | inl e ↦ grew-by (x .grew e) (RuleThree S) (matched (broken-live S p q e))
-          | inr e ↦
-              let k = x .same e in
-              subst (λ (r : List ℕ). Grew (RuleThree S) (S .rows) names r names′) (sym (k .0))
-              (subst (λ (n : List ℕ). Grew (RuleThree S) (S .rows) names (S .rows) n) (sym (k .1)) (grew-same (RuleThree S) (S .rows) names))
+  -- what is sent is all that live pairs send, and nothing that rows which meet rule 3 can do without
+  module _ {sent sent′ : List ℕ} (x : SentIf (alive S p q) (S .rows) (q .node) sent sent′) where
+    pub asked-more : Asked S p sent → Asked S p sent′
+    asked-more was M rule below m few o h on =
+        elim (or-split (marked sent m o) _ (sym (x .is m o h) ∙ on)) [
+          | inl k ↦ was M rule below m few o h k
+          | inr k ↦
+              let l = and-split (alive S p q) _ k in
+              matched (l .0) M rule below m few o h (below _ o h (and-split (ltb m (q .node .arity)) _ (l .1) .1))
         ]
 
-    pub pair-noted : Noted (regrown S rows′) names′ p q
-    pair-noted e =
-        elim (decided (breaksPair 3 S p q)) [
-          | inl was ↦
-              let y = broken-at (regrown S rows′) p q e in
-              let l = live-near (regrown S rows′) p q (broken-live (regrown S rows′) p q e) in
-              let few : y .0 < q .node .arity = subst (λ (n : ℕ). y .0 < n) (arities (given-again g (pair-grew .size)) hp rp hq l) (y .1) in
-              or-right (marked names′ 0 (p .node .name)) _ (or-right (marked names′ 0 (q .node .name)) _
-              (true-any (q .node .arity) (λ m. marked names′ 0 (getD (q .node .args) m 0)) (y .0) few (x .settled was (y .0) (y .1) (y .2))))
-          | inr was ↦
-              let k = x .same was in
-              absurd (true≢false (sym e ∙ subst (λ (r : List ℕ). breaksPair 3 (regrown S r) p q ≡ false) (sym (k .0)) was))
-        ]
+    pub sent-here : Sends S p sent′ q
+    sent-here l m few =
+        let also : m < q .node .arity = subst (λ (n : ℕ). m < n) (arities g hp rp hq (live-near S p q l)) few in
+        marked-inside (S .rows) _ sent′ m (λ o h on.
+        x .is m o h ∙ or-right (marked sent m o) _ (and-join l (and-join (lt-ltb m (q .node .arity) also) on)))
 
--- the same by another test that says the same
-pub answer-by : {b d : Bool} {p q : Record} {rows names rows′ names′ : List ℕ} → b ≡ d → PairAnswer b p q rows names rows′ names′
-    → PairAnswer d p q rows names rows′ names′
-answer-by e x = record { same = λ k. x .same (e ∙ k); grew = λ k. x .grew (e ∙ k); settled = λ k. x .settled (e ∙ k) }
+  -- and once the parameters' rows contain it, no such pair breaks the rule without a noted name
+  pub sent-noted : (sent : List ℕ) {names rows′ names′ : List ℕ} {C : Rows → Type 0} → Grew C (S .rows) names rows′ names′ → Sends S p sent q
+      → Takes (p .node .arity) (p .node .args) sent (marked rows′) → Noted (regrown S rows′) names′ p q
+  sent-noted sent {rows′ = rows′} a sends takes =
+      noted-taken a (λ l m few. marked-inside (S .rows) _ rows′ _ (λ o h on. takes m few o h (inside-marked (S .rows) _ sent m (sends l m few) o h on)))
+
+-- what was sent stays so while more is
+pub sent-more : (S : Setting) (p q : Side) {on : Bool} {r : Record} {sent sent′ : List ℕ} → SentIf on (S .rows) r sent sent′ → Sends S p sent q
+    → Sends S p sent′ q
+sent-more S p q {sent = sent} {sent′ = sent′} x was l m few =
+    marked-inside (S .rows) _ sent′ m (λ o h e. x .is m o h ∙ or-left _ _ (inside-marked (S .rows) _ sent m (was l m few) o h e))

@@ -6,7 +6,7 @@ use mathlib.Core.List.{List}
 use lib.Dec.{eqb, ltb}
 use lib.ListN.{length, getD}
 use Rattle.laws.specs.Search.{every}
-use Rattle.marks.specs.Marks.{marked, markIf, inside}
+use Rattle.marks.specs.Marks.{marked, markIf, inside, Joined}
 use Rattle.model.specs.Tree.{Array, isNew}
 use Rattle.model.specs.Rules.{Rule3}
 use Rattle.model.specs.Mend.{Rows, withRows}
@@ -15,7 +15,7 @@ use Rattle.records.specs.declared.Trailer.{Trailer}
 use Rattle.records.specs.Record.{nodeOf}
 use Rattle.records.specs.Kinds.{isReceiver}
 use Rattle.pairs.specs.declared.Side.{Side}
-use Rattle.pairs.specs.Pairs.{Setting, setting, Held, arrayIn, tableIn, breaksPair}
+use Rattle.pairs.specs.Pairs.{Setting, setting, Held, arrayIn, tableIn, livePair, breaksPair}
 use Rattle.senders.specs.Sets.{Family, family, sendsMarked, sendsBy, Gathered}
 use Rattle.filter.specs.Filter.{mayCome, argInside}
 
@@ -38,33 +38,36 @@ pub record Grew (C : Rows → Type 0) (rows names rows′ names′ : List ℕ) :
       → (o : ℕ) × (o < 256) × (marked rows v o ≡ false) × (marked rows′ v o ≡ true)
   pub least : (M : Rows) → C M → Below rows M → Below rows′ M
 
--- row u has the marks of row v beside its own, and name u is noted where one of them is new
-pub record Added (rows names : List ℕ) (u v : ℕ) (rows′ names′ : List ℕ) : Type 0 where
-  pub size : length rows′ ≡ length rows
-  pub is : (x o : ℕ) → o < 256 → marked rows′ x o ≡ marked rows x o || (eqb x u && marked rows v o)
-  pub noted : names′ ≡ markIf names (not (inside rows v rows u)) u
+-- row u has the marks of row v of another list beside its own, and name u is noted where one of them is new
+pub record Added (rows names : List ℕ) (u : ℕ) (sent : List ℕ) (v : ℕ) (rows′ names′ : List ℕ) : Type 0 where
+  pub joined : Joined rows rows′ u sent v
+  pub noted : names′ ≡ markIf names (not (inside sent v rows u)) u
 
--- ---- a pair
+-- ---- what is sent to a receiver: row m of a list has what senders send as argument m
 
--- what n parameters ask of what is sent: argument m's row is contained in parameter m's
-abbrev pub Matched : ℕ → List ℕ → List ℕ → Rows → Type 0
-Matched n params sent M = (m : ℕ) → m < n → (o : ℕ) → o < 256 → M (getD sent m 0) o ≡ true → M (getD params m 0) o ≡ true
+-- the list has what a record sends beside what it had, where the test is true
+pub record SentIf (on : Bool) (rows : List ℕ) (r : Record) (sent sent′ : List ℕ) : Type 0 where
+  pub size : length sent′ ≡ length sent
+  pub is : (m o : ℕ) → o < 256 → marked sent′ m o ≡ marked sent m o || (on && (ltb m (r .arity) && marked rows (getD (r .args) m 0) o))
 
--- argument m is contained, or noted
-abbrev pub Settled : List ℕ → List ℕ → List ℕ → List ℕ → ℕ → Type 0
-Settled rows names params sent m = inside rows (getD sent m 0) rows (getD params m 0) ≡ false → marked names 0 (getD sent m 0) ≡ true
-
--- a pair that does not break rule 3 changes nothing; the rows of another are matched
-pub record PairAnswer (breaks : Bool) (p q : Record) (rows names rows′ names′ : List ℕ) : Type 0 where
-  pub same : breaks ≡ false → (rows′ ≡ rows) × (names′ ≡ names)
-  pub grew : breaks ≡ true → Grew (Matched (p .arity) (p .args) (q .args)) rows names rows′ names′
-  pub settled : breaks ≡ true → (m : ℕ) → m < p .arity → Settled rows′ names′ (p .args) (q .args) m
+-- the rows of n parameters contain it
+abbrev pub Takes : ℕ → List ℕ → List ℕ → Rows → Type 0
+Takes n params sent M = (m : ℕ) → m < n → (o : ℕ) → o < 256 → marked sent m o ≡ true → M (getD params m 0) o ≡ true
 
 -- ---- pairs of an array
 
 -- rows that meet rule 3 under the setting's balances; the setting's own rows do not matter
 abbrev pub RuleThree : Setting → Rows → Type 0
 RuleThree S M = Rule3 (arrayIn S) (withRows (tableIn S) M)
+
+-- what is sent to p is in every choice of rows that meet rule 3 and contain these
+abbrev pub Asked : Setting → Side → List ℕ → Type 0
+Asked S p sent = (M : Rows) → RuleThree S M → Below (S .rows) M → Takes (p .node .arity) (p .node .args) sent M
+
+-- q's arguments are among it, where the pair is live
+abbrev pub Sends : Setting → Side → List ℕ → Side → Type 0
+Sends S p sent q =
+    livePair (S .rows) (S .loads) (S .bounds) (S .n) p q ≡ true → (m : ℕ) → m < p .node .arity → inside (S .rows) (getD (q .node .args) m 0) sent m ≡ true
 
 -- the pair uses a marked name: the receiver's channel, the sender's, or what is sent
 abbrev pub touches : List ℕ → Side → Side → Bool

@@ -4,14 +4,15 @@
 // (rows as bytes), filter and senders (sets of senders), pairs, frees (the names that news open), layout, loads, arrays, records, marks, wire, model and
 // laws. The lists take 106,600 bytes of stack, those of a sweep 13,424.
 ghost use mathlib.Core.Path.{_≡_};
-ghost use mathlib.Core.Bool.{true, not, _&&_};
+ghost use mathlib.Core.Bool.{true};
 ghost use mathlib.Core.List.{List};
 ghost use Prim.Native.Nat.{ℕ, _<_, _≤_};
 ghost use lib.ListN.{length, replicate};
 ghost use Rattle.laws.specs.Search.{every};
 ghost use Rattle.laws.specs.Lists.{put};
-ghost use Rattle.marks.specs.Marks.{HasRow};
+ghost use Rattle.marks.specs.Marks.{HasRow, marked};
 ghost use Rattle.model.specs.Tree.{isAgent};
+ghost use Rattle.model.specs.Memory.{isOut};
 ghost use Rattle.model.specs.Mend.{mended, bitsSet};
 ghost use Rattle.records.specs.Record.{nodeOf, recordOf, arrayOf, RecordsFit};
 ghost use Rattle.records.specs.Kinds.{isReceiver};
@@ -19,74 +20,82 @@ ghost use Rattle.arrays.specs.File.{IsRead};
 ghost use Rattle.arrays.specs.Agents.{Reads};
 ghost use Rattle.layout.specs.Table.{tableOf, IsTable};
 ghost use Rattle.flows.specs.Written.{rewritten};
-ghost use Rattle.pairs.specs.Pairs.{setting, Given, meets, liveBy, allHoldBy, Rooms, Figures, NameRow};
-ghost use Rattle.senders.specs.Sets.{family, Member, Linked};
+ghost use Rattle.pairs.specs.Pairs.{setting, Given, liveBy, Rooms, NameRow};
+ghost use Rattle.senders.specs.Sets.{family, SentRows, Member, Linked};
 ghost use Rattle.filter.specs.Filter.{ArgRows};
-ghost use Rattle.mending.specs.Growing.{Grew, Added, Matched, Settled, PairAnswer, RuleThree, Noted, Stale};
+ghost use Rattle.mending.specs.Growing.{Grew, Added, SentIf, Takes, RuleThree, Noted, Stale};
 ghost use Rattle.mending.specs.Growing.{setClear, LargeSets, SetNoted, AllNoted, NodeNoted, Swept, Clean, Finished, OwnMarked};
 use layout::Sizes;
 use pairs::Side;
 use records::Record;
 use records::Trailer;
 
-// Row u gets the marks of row v; where one is new, name u is noted.
-fn add_row(rows: &mut [u64], names: &mut [u64], u: usize, v: usize)
-    requires { ⌜ (length (now rows) ≡ 1024) × (length (now names) ≡ 4) × (u < 256) × (v < 256) ⌝ }
-    ensures { λ _. ⌜ Added (now (rows .entry)) (now (names .entry)) u v (now (rows .exit)) (now (names .exit)) ⌝ }
+// Row u gets the marks of row v of what is sent; where one is new, name u is noted.
+fn add_row(rows: &mut [u64], names: &mut [u64], u: usize, sent: &[u64], v: usize)
+    requires { ⌜ (length (now rows) ≡ 1024) × (length (now names) ≡ 4) × (length (now sent) ≡ 32) × (u < 256) × (v < 8) ⌝ }
+    ensures { λ _. ⌜ Added (now (rows .entry)) (now (names .entry)) u (now (sent .entry)) v (now (rows .exit)) (now (names .exit)) ⌝ }
 {
-    if marks::contained(rows, v, rows, u) {
+    if marks::contained(sent, v, rows, u) {
         return;
     }
-    let row = marks::row_at(rows, v);
-    marks::join(rows, u, &row, 0);
+    marks::join(rows, u, sent, v);
     marks::mark_if(names, true, u);
 }
 
-// Each parameter's row gets the marks of the matching sent name's.
-fn add_args(rows: &mut [u64], names: &mut [u64], p: Record, q: Record)
-    requires { ⌜ (length (now rows) ≡ 1024) × (length (now names) ≡ 4) × (p .arity ≤ 8) ⌝ }
-    ensures { λ _. ⌜ Grew (Matched (p .arity) (p .args) (q .args)) (now (rows .entry)) (now (names .entry)) (now (rows .exit)) (now (names .exit)) ⌝ }
-    ensures { λ _. ⌜ ((m : ℕ) → m < p .arity → Settled (now (rows .exit)) (now (names .exit)) (p .args) (q .args) m) ⌝ }
+// Each parameter's row gets the marks of what is sent as its argument.
+fn add_args(rows: &mut [u64], names: &mut [u64], sent: &[u64], p: Record)
+    requires { ⌜ (length (now rows) ≡ 1024) × (length (now names) ≡ 4) × (length (now sent) ≡ 32) × (p .arity ≤ 8) ⌝ }
+    ensures { λ _. ⌜ Grew (Takes (p .arity) (p .args) (now (sent .entry))) (now (rows .entry)) (now (names .entry)) (now (rows .exit))
+        (now (names .exit)) ⌝ }
+    ensures { λ _. ⌜ Takes (p .arity) (p .args) (now (sent .entry)) (marked (now (rows .exit))) ⌝ }
 {
     let bound = p.args;
-    let sent = q.args;
     let arity = p.arity;
     let mut n: usize = 0;
     while n < arity {
-        add_row(
-            rows,
-            names,
-            wire::byte_index(bound[n]),
-            wire::byte_index(sent[n]),
-        );
+        add_row(rows, names, wire::byte_index(bound[n]), sent, n);
         n += 1;
     }
 }
 
-// The pair's rows are matched where it is live and breaks rule 3.
-fn mend_pair(
-    rows: &mut [u64],
-    names: &mut [u64],
+// What is sent gets the rows of what q sends.
+fn join_args(sent: &mut [u64], rows: &[u64], file: &[u8], t: Trailer, q: Side)
+    requires { ⌜ (length (now sent) ≡ 32) × SentRows (now rows) (q .node) × RecordsFit (now file) t × Reads (now file) t (q .number) (q .node) ⌝ }
+    ensures { λ _. ⌜ SentIf true (now (rows .entry)) (q .node) (now (sent .entry)) (now (sent .exit)) ⌝ }
+{
+    let own = q.number;
+    let arity = q.node.arity;
+    let mut m: usize = 0;
+    while m < arity {
+        marks::join(sent, m, rows, records::arg_at(file, t, own, m));
+        m += 1;
+    }
+}
+
+// The same where p and q are a live pair.
+fn join_pair(
+    sent: &mut [u64],
+    rows: &[u64],
+    file: &[u8],
+    t: Trailer,
     balances: usize,
     loads: &[u32],
-    gives: &[u32],
     rooms: &[u32],
     p: Side,
     q: Side,
 )
-    requires { ⌜ (length (now rows) ≡ 1024) × (length (now names) ≡ 4) × (p .node .arity ≤ 8) × Rooms balances (now loads) (now rooms) (q .number) ⌝ }
-    requires { ⌜ (isAgent (nodeOf (p .node)) ≡ true) × NameRow (now rows) p × NameRow (now rows) q ⌝ }
-    requires { ⌜ (meets (now rows) p q ≡ true → Figures 3 balances (now rows) (now loads) (now gives) p q) ⌝ }
-    ensures { λ _. ⌜ PairAnswer (liveBy (now (rows .entry)) (now (loads .entry)) (now (rooms .entry)) balances p q
-        && not (allHoldBy 3 balances (now (rows .entry)) (now (loads .entry)) (now (gives .entry)) p q))
-        (p .node) (q .node) (now (rows .entry)) (now (names .entry)) (now (rows .exit)) (now (names .exit)) ⌝ }
+    requires { ⌜ (length (now sent) ≡ 32) × RecordsFit (now file) t × Reads (now file) t (q .number) (q .node)
+        × (isOut (nodeOf (q .node)) ≡ true → SentRows (now rows) (q .node)) ⌝ }
+    requires { ⌜ Rooms balances (now loads) (now rooms) (q .number) × (isAgent (nodeOf (p .node)) ≡ true) × NameRow (now rows) p × NameRow (now rows) q ⌝ }
+    ensures { λ _. ⌜ SentIf (liveBy (now (rows .entry)) (now (loads .entry)) (now (rooms .entry)) balances p q) (now (rows .entry)) (q .node)
+        (now (sent .entry)) (now (sent .exit)) ⌝ }
 {
-    if pairs::breaks(3, balances, rows, loads, gives, rooms, p, q) {
-        add_args(rows, names, p.node, q.node);
+    if pairs::live(balances, rows, loads, rooms, p, q) {
+        join_args(sent, rows, file, t, q);
     }
 }
 
-// The pairs of p and the senders that the links of set g pass.
+// The pairs of p and the senders that the links of set g pass. What those of live pairs send is joined first, and compared with the parameters' rows once.
 fn mend_members(
     rows: &mut [u64],
     names: &mut [u64],
@@ -112,6 +121,7 @@ fn mend_members(
     let mut gives = [0u32; 24];
     let mut rooms = [0u32; 24];
     pairs::differences(&mut gives, &mut rooms, balances, loads, bounds, p);
+    let mut sent = [0u64; 32];
     let mut next = wire::number_index(links[senders::last_link(g)]);
     while 0 < next {
         let j = next - 1;
@@ -119,9 +129,10 @@ fn mend_members(
             number: j,
             node: records::node_at(file, t, j),
         };
-        mend_pair(rows, names, balances, loads, &gives, &rooms, p, q);
+        join_pair(&mut sent, rows, file, t, balances, loads, &rooms, p, q);
         next = wire::number_index(links[j]);
     }
+    add_args(rows, names, &sent, p.node);
 }
 
 // No sender of set g has to be looked at beside p: none may come, or all that the set sends is contained already.

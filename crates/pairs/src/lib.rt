@@ -139,7 +139,7 @@ fn fits_beside(balances: usize, loads: &[u32], rooms: &[u32], j: usize) -> bool
 }
 
 // Receiver p and q are a live pair.
-fn live(balances: usize, rows: &[u64], loads: &[u32], rooms: &[u32], p: Side, q: Side) -> bool
+pub fn live(balances: usize, rows: &[u64], loads: &[u32], rooms: &[u32], p: Side, q: Side) -> bool
     requires { ⌜ Rooms balances (now loads) (now rooms) (q .number) ⌝ }
     requires { ⌜ (isAgent (nodeOf (p .node)) ≡ true) × NameRow (now rows) p × NameRow (now rows) q ⌝ }
     ensures { λ b. ⌜ b ≡ liveBy (now (rows .entry)) (now (loads .entry)) (now (rooms .entry)) balances p q ⌝ }
