@@ -1,7 +1,8 @@
 //! Designs in which every receiver, but one that a stop follows, has senders that would break a rule with it if the
 //! pair were live: what a set of senders needs or sends together decides nothing. In `defeat`, `defeat3` and
 //! `defeat_sparse`, which are those of the trial, all bounds are 2 and such a sender is above the bound alone; in
-//! `defeat_sparse` only the first channel has some. In the others all bounds are 3 and it is within the bound alone.
+//! `defeat_sparse` only the first channel has some. In the others all bounds are 3 and it is within the bound alone. All
+//! are held but `flooded_spread`, of which this is said of the mended table.
 
 use super::{files, of_eight, ones, over_channels, own_rows, receivers_of_eight, two_chains, Files, ALONE};
 use crate::files::{Agent, Balance, Record, IN, OUT};
@@ -220,6 +221,12 @@ mod tests {
         assert!(table.balances.iter().all(|balance| balance.weights.iter().all(|w| u32::from(*w) <= balance.bound)));
     }
 
+    fn mended(files: Files) -> Files {
+        let mut table = files.table.clone();
+        plain::mend(&files.array, &files.table, &mut table).unwrap();
+        Files { table, ..files }
+    }
+
     #[test]
     fn sets_of_senders_decide_nothing() {
         defeats(pairs(&defeat(1024, 24)), usize::MAX);
@@ -232,6 +239,7 @@ mod tests {
         defeats_within(&within_sparse(1024, 128, 24), usize::MAX);
         defeats_within(&within_rows(1024, 256, 24), usize::MAX);
         defeats_within(&ended(1024, 24), 2);
+        defeats_within(&mended(flooded_spread(24)), 9);
     }
 
     #[test]
