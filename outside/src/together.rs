@@ -11,12 +11,12 @@ const BALANCES: [usize; 3] = [0, 1, 24];
 const MOST_ARITY: usize = 8;
 
 /// Senders of a channel that are taken together, and how many such sets there may be.
-const SET: usize = 16;
+const SET: usize = 8;
 const SETS: usize = 12;
 /// Said of an array, and of a table with any answer.
 const SIZES: [&str; 4] = [
     "over 12 channels with senders",
-    "over 12 sixteens of a channel's senders",
+    "over 12 eights of a channel's senders",
     "over 256 senders on a channel",
     "a live pair with a continuation that weighs over 1,000,000",
 ];
@@ -31,14 +31,14 @@ const ENDS: [&str; 6] = [
 ];
 /// Who together would break a rule in a held table. Those of a channel and an arity are kept apart by balances alone.
 const TOGETHER: [&str; 3] =
-    ["the senders of an arity", "the senders of a channel and an arity", "sixteen senders of a channel"];
+    ["the senders of an arity", "the senders of a channel and an arity", "eight senders of a channel"];
 /// What alone ends the life of a pair that would break a rule, in a held table.
 const ENDED: [&str; 4] = ["balances", "one balance, by one unit", "an arity one apart", "rows"];
 /// Said of the place of a broken rule.
 const PLACES: [&str; 12] = [
     "not at the first receiver",
     "at neither the first nor the last sender of its channel",
-    "after sixteen senders of its channel",
+    "after eight senders of its channel",
     "at the 256th or 257th sender of its channel",
     "not at the first argument or balance",
     "such a receiver, sender and argument or balance",

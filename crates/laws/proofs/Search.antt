@@ -9,8 +9,8 @@ use mathlib.Core.Path.{_≡_, refl, sym, ap, ap₂, _∙_}
 use mathlib.Core.Logic.{_⊎_, inl, inr, _≢_, ⊎-elim}
 use mathlib.Core.Bool as B
 use mathlib.Core.Bool.{Bool, true, false, not, _&&_, _||_, and-true, and-false, and-assoc, or-assoc, and-or-distrib-left, false≢true, true≢false}
-use lib.Dec.{leb}
-use borrow.Author.Tests.{leb-true, leb-false}
+use lib.Dec.{eqb, ltb, leb}
+use borrow.Author.Tests.{eqb-true, eqb-false, ltb-true, lt-ltb, le-ltb, leb-true, leb-false}
 use Rattle.laws.specs.Search.{Found, clear, hit, test, andThen, under, first, every, any, sum, least}
 
 -- ---- tests
@@ -55,6 +55,29 @@ pub same-test : (a b : Bool) → (a ≡ true → b ≡ true) → (b ≡ true →
 same-test true b f g = sym (f refl)
 same-test false true f g = g refl
 same-test false false f g = refl
+
+-- what is equal does not differ
+pub differs : (a b : Bool) → a ≡ b → not (B.Bool·beq a b) ≡ true → true ≡ false
+differs true true e k = sym k
+differs true false e k = e
+differs false true e k = sym e
+differs false false e k = sym k
+
+-- a test beside one of the numbers below n
+pub below-none-or : (a : Bool) (x : ℕ) (b : Bool) → a ≡ a || (ltb x 0 && b)
+below-none-or a x b = rw (le-ltb x 0 (omega arith)) (sym (B.or-false a))
+
+pub below-or : (a : Bool) (x n : ℕ) (f : ℕ → Bool) → (a || (ltb x n && f x)) || (eqb x n && f n) ≡ a || (ltb x (n + 1) && f x)
+below-or a x n f = go (decided (eqb x n))
+  where
+    go : (eqb x n ≡ true) ⊎ (eqb x n ≡ false) → (a || (ltb x n && f x)) || (eqb x n && f n) ≡ a || (ltb x (n + 1) && f x)
+    go (inl e) = rw (e, eqb-true x n e, le-ltb n n (omega arith), lt-ltb n (n + 1) (omega arith), B.or-false a)
+    go (inr e) = rw (e, below) (B.or-false (a || (ltb x (n + 1) && f x)))
+      where
+        below : ltb x n ≡ ltb x (n + 1)
+        below =
+            let other = eqb-false x n e in
+            same-test _ _ (λ k. lt-ltb x (n + 1) (omega (arith, ltb-true x n k))) (λ k. lt-ltb x n (omega (arith, ltb-true x (n + 1) k, other)))
 
 -- ---- one search
 

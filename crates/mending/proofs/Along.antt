@@ -14,7 +14,7 @@ use Rattle.pairs.specs.declared.Side.{Side}
 use Rattle.pairs.specs.Pairs.{Setting, Held}
 use Rattle.pairs.proofs.Search.{sideAt}
 use Rattle.senders.specs.Sets.{Member, Linked}
-use Rattle.mending.specs.Growing.{Sends}
+use Rattle.mending.proofs.Noting.{Sends}
 
 -- a node of the file
 pub held-at : (S : Setting) (j : ℕ) → j < S .t .nodes → Held S (sideAt S j)

@@ -1,20 +1,19 @@
 -- Rows that grow: in no step, in two steps, by one row, by those of all parameters.
 use Prim.Native.Nat.{ℕ, _+_, _<_}
-use native.Mathlib.Omega.{arith}
 use mathlib.Core.Path.{_≡_, refl, sym, ap, _∙_, subst}
 use mathlib.Core.Logic.{_⊎_, inl, inr}
-use mathlib.Core.Bool.{Bool, true, false, not, _&&_, _||_, true≢false}
+use mathlib.Core.Bool.{true, false, not, _&&_, _||_, true≢false}
 use mathlib.Core.Bool as bools
 use mathlib.Core.List.{List}
-use lib.Dec.{eqb, ltb}
+use lib.Dec.{eqb}
 use lib.ListN.{length, getD}
 use borrow.Author.Count.{below-more}
-use borrow.Author.Tests.{eqb-true, eqb-false, ltb-true, lt-ltb, le-ltb, not-true, not-false}
-use Rattle.laws.proofs.Search.{decided, and-split, and-join, or-split, or-left, or-right, or-false, every-false, same-test}
+use borrow.Author.Tests.{eqb-true, not-true, not-false}
+use Rattle.laws.proofs.Search.{decided, and-split, and-join, or-split, or-left, or-right, or-false, every-false}
 use Rattle.marks.specs.Marks.{marked, markIf, inside, Joined}
 use Rattle.marks.proofs.Laws.{marked-more, markIf-length, inside-marked, join-adds}
 use Rattle.model.specs.Mend.{Rows}
-use Rattle.mending.specs.Growing.{Below, Grew, Added, Takes}
+use Rattle.mending.specs.Growing.{Below, Grew, Added, Asks, Takes}
 
 -- ---- no step, two steps, a weaker property
 
@@ -31,7 +30,7 @@ grew-same C rows names = record {
 
 module _ {C : Rows → Type 0} {rows names rows₁ names₁ : List ℕ} (a : Grew C rows names rows₁ names₁) where
   -- a mark that is not there later was not there before
-  pub was-off : (v o : ℕ) → o < 256 → marked rows₁ v o ≡ false → marked rows v o ≡ false
+  was-off : (v o : ℕ) → o < 256 → marked rows₁ v o ≡ false → marked rows v o ≡ false
   was-off v o h off =
       elim (decided (marked rows v o)) [ inl e ↦ absurd (true≢false (sym (a .more v o h e) ∙ off)) | inr e ↦ e ]
 
@@ -75,23 +74,6 @@ module _ {C : Rows → Type 0} {rows names rows₁ names₁ : List ℕ} (a : Gre
     least = λ M d l. a .least M (f M d l) l;
   }
 
--- ---- a test of numbers below n
-
-pub below-none-or : (a : Bool) (x : ℕ) (b : Bool) → a ≡ a || (ltb x 0 && b)
-below-none-or a x b = rw (le-ltb x 0 (omega arith)) (sym (bools.or-false a))
-
-pub below-or : (a : Bool) (x n : ℕ) (f : ℕ → Bool) → (a || (ltb x n && f x)) || (eqb x n && f n) ≡ a || (ltb x (n + 1) && f x)
-below-or a x n f = go (decided (eqb x n))
-  where
-    go : (eqb x n ≡ true) ⊎ (eqb x n ≡ false) → (a || (ltb x n && f x)) || (eqb x n && f n) ≡ a || (ltb x (n + 1) && f x)
-    go (inl e) = rw (e, eqb-true x n e, le-ltb n n (omega arith), lt-ltb n (n + 1) (omega arith), bools.or-false a)
-    go (inr e) = rw (e, below) (bools.or-false (a || (ltb x (n + 1) && f x)))
-      where
-        below : ltb x n ≡ ltb x (n + 1)
-        below =
-            let other = eqb-false x n e in
-            same-test _ _ (λ k. lt-ltb x (n + 1) (omega (arith, ltb-true x n k))) (λ k. lt-ltb x n (omega (arith, ltb-true x (n + 1) k, other)))
-
 -- ---- one row
 
 -- what a row lacks of another list's
@@ -128,17 +110,13 @@ module _ (rows names : List ℕ) (u : ℕ) (from : List ℕ) (v : ℕ) where
   pub added-row : inside from v rows u ≡ false → (rows′ : List ℕ) → Joined rows rows′ u from v → Added rows names u from v rows′ (markIf names true u)
   added-row e rows′ j = record { joined = j; noted = rw e }
 
--- what asks row u for row v of another list
-abbrev pub Asks : ℕ → List ℕ → ℕ → Rows → Type 0
-Asks u from v M = (o : ℕ) → o < 256 → marked from v o ≡ true → M u o ≡ true
-
 module _ {rows names : List ℕ} {u : ℕ} {from : List ℕ} {v : ℕ} {rows′ names′ : List ℕ} (a : Added rows names u from v rows′ names′)
     (four : length names ≡ 4) (small : u < 256) where
   -- the names that are noted
   names-are : (x : ℕ) → marked names′ 0 x ≡ marked names 0 x || (not (inside from v rows u) && eqb x u)
   names-are x = ap (λ (l : List ℕ). marked l 0 x) (a .noted) ∙ marked-more names (not (inside from v rows u)) u x four small
 
-  pub grew-added : Grew (Asks u from v) rows names rows′ names′
+  grew-added : Grew (Asks u from v) rows names rows′ names′
   grew-added = record {
     size = a .joined .size;
     marks = ap length (a .noted) ∙ markIf-length names _ u;

@@ -26,7 +26,7 @@ use Rattle.pairs.specs.declared.Side.{Side}
 use Rattle.pairs.specs.Pairs.{Setting, setting, Given, Held, arrayIn, tableIn, bearsBoth, argumentHolds, breaksPair}
 use Rattle.pairs.proofs.Laws.{alive, live-near, meet-sends, live-is, agent-p, arities, arg-is}
 use Rattle.senders.specs.Sets.{sendsMarked}
-use Rattle.mending.specs.Growing.{Below, Grew, SentIf, Takes, RuleThree, touches, Noted, Asked, Sends}
+use Rattle.mending.specs.Growing.{Below, Grew, SentIf, Takes, RuleThree, touches, Noted}
 use Rattle.mending.proofs.Growth.{unnoted}
 
 -- a setting with other rows
@@ -45,12 +45,12 @@ given-again g e = record {
 pub broken-live : (S : Setting) (p q : Side) → breaksPair 3 S p q ≡ true → alive S p q ≡ true
 broken-live S p q e = and-split (alive S p q) _ e .0
 
-pub broken-at : (S : Setting) (p q : Side) → breaksPair 3 S p q ≡ true → (m : ℕ) × (m < p .node .arity) × (argumentHolds (S .rows) p q m ≡ false)
+broken-at : (S : Setting) (p q : Side) → breaksPair 3 S p q ≡ true → (m : ℕ) × (m < p .node .arity) × (argumentHolds (S .rows) p q m ≡ false)
 broken-at S p q e = every-false (p .node .arity) _ (not-true _ (and-split (alive S p q) _ e .1))
 
 -- names that are not marked
 module _ (names : List ℕ) (p q : Side) (e : touches names p q ≡ false) where
-  pub channel-off : marked names 0 (p .node .name) ≡ false
+  channel-off : marked names 0 (p .node .name) ≡ false
   channel-off = or-false _ _ e .0
 
   pub own-off : marked names 0 (q .node .name) ≡ false
@@ -58,6 +58,17 @@ module _ (names : List ℕ) (p q : Side) (e : touches names p q ≡ false) where
 
   pub sent-off : (m : ℕ) → m < q .node .arity → marked names 0 (getD (q .node .args) m 0) ≡ false
   sent-off = any-false _ _ (or-false (marked names 0 (q .node .name)) _ (or-false (marked names 0 (p .node .name)) _ e .1) .1)
+
+-- ---- what is sent to a receiver
+
+-- what is sent to p is in every choice of rows that meet rule 3 and contain these
+abbrev pub Asked : Setting → Side → List ℕ → Type 0
+Asked S p sent = (M : Rows) → RuleThree S M → Below (S .rows) M → Takes (p .node .arity) (p .node .args) sent M
+
+-- q's arguments are among it, where the pair is live
+abbrev pub Sends : Setting → Side → List ℕ → Side → Type 0
+Sends S p sent q =
+    alive S p q ≡ true → (m : ℕ) → m < p .node .arity → inside (S .rows) (getD (q .node .args) m 0) sent m ≡ true
 
 -- ---- what was noted stays noted
 
@@ -77,7 +88,7 @@ module _ {S : Setting} (g : Given S) {p : Side} (hp : Held S p) (rp : isReceiver
         ∙ broken-live (regrown S rows′) p q e
 
     -- and one whose parameters contained what it sends uses a noted name
-    pub noted-taken : (alive S p q ≡ true → (m : ℕ) → m < p .node .arity → inside (S .rows) (getD (q .node .args) m 0) rows′ (getD (p .node .args) m 0) ≡ true)
+    noted-taken : (alive S p q ≡ true → (m : ℕ) → m < p .node .arity → inside (S .rows) (getD (q .node .args) m 0) rows′ (getD (p .node .args) m 0) ≡ true)
         → Noted (regrown S rows′) names′ p q
     noted-taken takes e =
         elim (decided (touches names′ p q)) [

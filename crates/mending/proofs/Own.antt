@@ -5,11 +5,11 @@ use mathlib.Core.Bool.{Bool, _&&_, _||_, and-comm}
 use mathlib.Core.List.{List}
 use lib.Dec.{eqb, ltb}
 use lib.ListN.{replicate, length-replicate}
+use Rattle.laws.proofs.Search.{below-none-or, below-or}
 use Rattle.marks.specs.Marks.{marked, markIf, Joined}
 use Rattle.marks.proofs.Laws.{marked-none, marked-more}
 use Rattle.model.specs.Tree.{Array, isNew}
 use Rattle.mending.specs.Growing.{OwnMarked}
-use Rattle.mending.proofs.Growth.{below-none-or, below-or}
 
 pub own-none : (a : Array) (rows : List ℕ) → OwnMarked a 0 rows rows
 own-none a rows = record { size = refl; is = λ v o h. below-none-or (marked rows v o) v _ }

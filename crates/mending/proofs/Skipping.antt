@@ -76,11 +76,11 @@ module _ {S : Setting} (g : Given S) {p : Side} (hp : Held S p) (rp : isReceiver
   unless f e = elim (decided (touches names p q)) [ inl on ↦ on | inr off ↦ absurd (true≢false (sym e ∙ f off)) ]
 
   -- no sender of the set may come
-  pub far-noted : mayCome (F .unions) (F .arities) (S .rows) own p ≡ false → Noted S names p q
+  far-noted : mayCome (F .unions) (F .arities) (S .rows) own p ≡ false → Noted S names p q
   far-noted e = unless (λ off. far-set 3 g hp rp F own q hq (and-split _ _ by .0) (covers-now off) e)
 
   -- all that the set sends is contained
-  pub whole-noted : figuresPass 3 (S .n) (F .needs) (F .unions) (S .rows) (S .loads) own p ≡ true → Noted S names p q
+  whole-noted : figuresPass 3 (S .n) (F .needs) (F .unions) (S .rows) (S .loads) own p ≡ true → Noted S names p q
   whole-noted e = unless (λ off. whole-set 3 g hp rp F own q hq (and-split _ _ by .0) (covers-now off) e)
 
   -- either of the two

@@ -15,7 +15,7 @@ use Rattle.records.specs.declared.Trailer.{Trailer}
 use Rattle.records.specs.Record.{nodeOf}
 use Rattle.records.specs.Kinds.{isReceiver}
 use Rattle.pairs.specs.declared.Side.{Side}
-use Rattle.pairs.specs.Pairs.{Setting, setting, Held, arrayIn, tableIn, livePair, breaksPair}
+use Rattle.pairs.specs.Pairs.{Setting, setting, Held, arrayIn, tableIn, breaksPair}
 use Rattle.senders.specs.Sets.{Family, family, sendsMarked, sendsBy, Gathered}
 use Rattle.filter.specs.Filter.{mayCome, argInside}
 
@@ -50,24 +50,18 @@ pub record SentIf (on : Bool) (rows : List ℕ) (r : Record) (sent sent′ : Lis
   pub size : length sent′ ≡ length sent
   pub is : (m o : ℕ) → o < 256 → marked sent′ m o ≡ marked sent m o || (on && (ltb m (r .arity) && marked rows (getD (r .args) m 0) o))
 
--- the rows of n parameters contain it
+-- row u contains row v of the list, and the rows of n parameters what is sent to each
+abbrev pub Asks : ℕ → List ℕ → ℕ → Rows → Type 0
+Asks u sent v M = (o : ℕ) → o < 256 → marked sent v o ≡ true → M u o ≡ true
+
 abbrev pub Takes : ℕ → List ℕ → List ℕ → Rows → Type 0
-Takes n params sent M = (m : ℕ) → m < n → (o : ℕ) → o < 256 → marked sent m o ≡ true → M (getD params m 0) o ≡ true
+Takes n params sent M = (m : ℕ) → m < n → Asks (getD params m 0) sent m M
 
 -- ---- pairs of an array
 
 -- rows that meet rule 3 under the setting's balances; the setting's own rows do not matter
 abbrev pub RuleThree : Setting → Rows → Type 0
 RuleThree S M = Rule3 (arrayIn S) (withRows (tableIn S) M)
-
--- what is sent to p is in every choice of rows that meet rule 3 and contain these
-abbrev pub Asked : Setting → Side → List ℕ → Type 0
-Asked S p sent = (M : Rows) → RuleThree S M → Below (S .rows) M → Takes (p .node .arity) (p .node .args) sent M
-
--- q's arguments are among it, where the pair is live
-abbrev pub Sends : Setting → Side → List ℕ → Side → Type 0
-Sends S p sent q =
-    livePair (S .rows) (S .loads) (S .bounds) (S .n) p q ≡ true → (m : ℕ) → m < p .node .arity → inside (S .rows) (getD (q .node .args) m 0) sent m ≡ true
 
 -- the pair uses a marked name: the receiver's channel, the sender's, or what is sent
 abbrev pub touches : List ℕ → Side → Side → Bool
@@ -104,7 +98,7 @@ SetNoted S names chosen sets p g =
 abbrev pub AllNoted : Setting → List ℕ → List ℕ → Side → Type 0
 AllNoted S names chosen p = (q : Side) → Held S q → sendsBy chosen (q .node) ≡ true → Noted S names p q
 
--- those of node i, where it receives on a name in `reach`, or on another
+-- those of node i, where it receives on a name in `reach` (or, where `on` is false, on another)
 abbrev pub NodeNoted : Setting → List ℕ → List ℕ → List ℕ → Bool → ℕ → Type 0
 NodeNoted S names chosen reach on i =
     (p : Side) → Held S p → p .number ≡ i → isReceiver (nodeOf (p .node)) ≡ true → marked reach 0 (p .node .name) ≡ on → AllNoted S names chosen p

@@ -1,7 +1,7 @@
 // The mended rows of a table, and its file. Passes over pairs set what rule 3 asks for, until no row changes; a pass looks only at pairs that use a
 // name whose row changed in the pass before, and sets of senders are asked before single ones.
-// Promises the rows that the model's rounds find, written with their word sum, and the number of bits set. Depends on lists (rows, loads, bounds), flows
-// (rows as bytes), filter and senders (sets of senders), pairs, frees (the names that news open), layout, loads, arrays, records, marks, wire, model and
+// Promises the rows that the model's rounds find, written with their word sum, and the number of bits set. Depends on lists (loads, bounds), flows
+// (rows, also as bytes), filter and senders (sets of senders), pairs, frees (the names that news open), layout, loads, arrays, records, marks, wire, model and
 // laws. The lists take 106,600 bytes of stack, those of a sweep 13,424.
 ghost use mathlib.Core.Path.{_≡_};
 ghost use mathlib.Core.Bool.{true};
@@ -96,6 +96,7 @@ fn join_pair(
 }
 
 // The pairs of p and the senders that the links of set g pass. What those of live pairs send is joined first, and compared with the parameters' rows once.
+// Of p's differences rule 3 asks for the rooms alone.
 fn mend_members(
     rows: &mut [u64],
     names: &mut [u64],

@@ -8,10 +8,6 @@ use Rattle.mending.proofs.Growth.{added-none, added-row}
 use Rattle.mending.proofs.add_row.Statement.{statement}
 use Rattle.mending.proofs.add_row.Tie as tie
 
--- stations
-abbrev at-join : tie.After-mark-if → tie.After-join
-at-join c = c .before .before .before .before
-
 contained-requires : tie.Need-contained-requires
 contained-requires c κs = let p = c .before .before .before .before .pre in (omega (arith, p .2, p .4), omega (arith, p .0, p .3))
 

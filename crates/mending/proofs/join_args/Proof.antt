@@ -7,10 +7,10 @@ use lib.Dec.{eqb, ltb}
 use lib.ListN.{length, getD}
 use borrow.Author.Needs.{needs}
 use native.Mathlib.Omega.{arith}
+use Rattle.laws.proofs.Search.{below-none-or, below-or}
 use Rattle.marks.specs.Marks.{marked, HasRow}
 use Rattle.records.specs.declared.Record.{Record}
 use Rattle.records.specs.Record.{recordOf}
-use Rattle.mending.proofs.Growth.{below-none-or, below-or}
 use Rattle.mending.proofs.join_args.Statement.{statement}
 use Rattle.mending.proofs.join_args.Tie as tie
 

@@ -15,9 +15,9 @@ use Rattle.pairs.proofs.Laws.{alive, agent-p, name-row}
 use Rattle.pairs.proofs.Search.{sideAt}
 use Rattle.pairs.proofs.ByDifference.{rooms-there, live-by}
 use Rattle.senders.proofs.Laws.{askable}
-use Rattle.mending.specs.Growing.{SentIf, RuleThree, Asked, Sends}
+use Rattle.mending.specs.Growing.{SentIf, RuleThree}
 use Rattle.mending.proofs.Growth.{grew-by}
-use Rattle.mending.proofs.Noting.{asked-more, sent-here, sent-more, sent-noted}
+use Rattle.mending.proofs.Noting.{Asked, Sends, asked-more, sent-here, sent-more, sent-noted}
 use Rattle.mending.proofs.Along.{held-at, sends-at, AtLink, links-begun, link-node, link-down, links-more, links-done}
 use Rattle.mending.proofs.mend_members.Statement.{statement}
 use Rattle.mending.proofs.mend_members.Tie as tie

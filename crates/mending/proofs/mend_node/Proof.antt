@@ -2,10 +2,10 @@
 use denote.Ref.{now}
 use Prim.Native.Nat.{ℕ}
 use mathlib.Core.Path.{_≡_, sym, _∙_}
-use mathlib.Core.Bool.{Bool, true, false, not, Bool·beq, true≢false}
+use mathlib.Core.Bool.{true, true≢false}
 use borrow.Author.Needs.{needs}
 use native.Mathlib.Omega.{arith}
-use Rattle.laws.proofs.Search.{every-true}
+use Rattle.laws.proofs.Search.{differs, every-true}
 use Rattle.records.specs.Record.{nodeOf}
 use Rattle.records.specs.Kinds.{isReceiver}
 use Rattle.arrays.proofs.Agents.{small-arity}
@@ -36,13 +36,6 @@ module _ (c : tie.After-node-at) where
 
   held : Held given record { number = s .args .i; node = c .node-at .result }
   held = record { below = s .pre .0 .3; is = c .node-at .ensures }
-
--- what is equal does not differ
-differs : (a b : Bool) → a ≡ b → not (Bool·beq a b) ≡ true → true ≡ false
-differs true true e k = sym k
-differs true false e k = e
-differs false true e k = sym e
-differs false false e k = sym k
 
 -- a node with figures receives
 receiver : (c : tie.Else1) → isReceiver (nodeOf (c .before .before .node-at .result)) ≡ true

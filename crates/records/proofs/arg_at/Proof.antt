@@ -5,7 +5,6 @@ use denote.Ref.{now}
 use lib.ListN.{drop}
 use lib.Seq.{getD-take, getD-drop}
 use borrow.Author.Needs.{needs}
-use native.Mathlib.Omega.{arith}
 use Rattle.records.proofs.arg_at.Statement.{statement}
 use Rattle.records.proofs.arg_at.Tie as tie
 
