@@ -2,18 +2,19 @@
 use Prim.Native.Nat.{ℕ, _+_, _<_}
 use mathlib.Core.Path.{_≡_, refl, sym, ap, _∙_, subst}
 use mathlib.Core.Logic.{_⊎_, inl, inr}
-use mathlib.Core.Bool.{true, false, not, _&&_, _||_, true≢false}
+use mathlib.Core.Bool.{Bool, true, false, not, _&&_, _||_, true≢false}
 use mathlib.Core.Bool as bools
 use mathlib.Core.List.{List}
-use lib.Dec.{eqb}
+use lib.Dec.{eqb, ltb}
 use lib.ListN.{length, getD}
 use borrow.Author.Count.{below-more}
-use borrow.Author.Tests.{eqb-true, not-true, not-false}
+use borrow.Author.Tests.{eqb-true, ltb-true, not-true, not-false}
 use Rattle.laws.proofs.Search.{decided, and-split, and-join, or-split, or-left, or-right, or-false, every-false}
 use Rattle.marks.specs.Marks.{marked, markIf, inside, Joined}
 use Rattle.marks.proofs.Laws.{marked-more, markIf-length, inside-marked, join-adds}
 use Rattle.model.specs.Mend.{Rows}
-use Rattle.mending.specs.Growing.{Below, Grew, Added, Asks, Takes}
+use Rattle.records.specs.declared.Record.{Record}
+use Rattle.mending.specs.Growing.{Below, Grew, Added, SentIf, sentAt, Asks, Takes}
 
 -- ---- no step, two steps, a weaker property
 
@@ -155,6 +156,24 @@ module _ {rows names : List ℕ} {u : ℕ} {from : List ℕ} {v : ℕ} {rows′ 
             | inl e ↦ absurd (true≢false (sym e ∙ off))
             | inr e ↦ and-split _ _ e
           ]
+
+-- ---- what is sent
+
+-- where all that a record sends is there, it may as well be joined again
+pub sent-there : (on : Bool) (rows : List ℕ) (r : Record) (sent : List ℕ) → ((m : ℕ) → m < r .arity → sentAt rows r sent m ≡ true)
+    → SentIf on rows r sent sent
+sent-there on rows r sent there = record { size = refl; is = λ m o h. go m o h (decided (marked sent m o)) }
+  where
+    go : (m o : ℕ) → o < 256 → (marked sent m o ≡ true) ⊎ (marked sent m o ≡ false)
+        → marked sent m o ≡ marked sent m o || (on && (ltb m (r .arity) && marked rows (getD (r .args) m 0) o))
+    go m o h (inl e) = rw e
+    go m o h (inr e) =
+        elim (decided (on && (ltb m (r .arity) && marked rows (getD (r .args) m 0) o))) [
+          | inr k ↦ rw (e, k)
+          | inl k ↦
+              let x = and-split (ltb m (r .arity)) _ (and-split on _ k .1) in
+              absurd (true≢false (sym (inside-marked rows _ sent m (there m (ltb-true m (r .arity) (x .0))) o h (x .1)) ∙ e))
+        ]
 
 -- ---- parameter after parameter
 module _ (count : ℕ) (params sent rows names : List ℕ) where

@@ -5,13 +5,13 @@ use mathlib.Core.Logic.{inl, inr}
 use mathlib.Core.Bool.{Bool, true, false, _&&_, _||_, true≢false}
 use mathlib.Core.List.{List}
 use lib.Dec.{eqb, ltb}
-use lib.ListN.{length, getD}
+use lib.ListN.{length, getD, replicate}
 use borrow.Author.Tests.{lt-ltb, not-true, not-false}
 use Rattle.laws.specs.Search.{every}
 use Rattle.laws.proofs.Search.{decided, and-split, and-join, or-split, or-right, or-left, or-false, every-true, every-false, any-same, true-any}
 use Rattle.laws.proofs.Search.{any-false, any-true}
 use Rattle.marks.specs.Marks.{marked, share, inside}
-use Rattle.marks.proofs.Laws.{inside-marked, marked-inside}
+use Rattle.marks.proofs.Laws.{marked-none, inside-marked, marked-inside}
 use Rattle.model.specs.Memory.{isOut}
 use Rattle.model.specs.Rules.{Live, within}
 use Rattle.model.specs.Mend.{Rows, withRows}
@@ -171,6 +171,14 @@ module _ {S : Setting} (g : Given S) {p : Side} (hp : Held S p) (rp : isReceiver
       → Takes (p .node .arity) (p .node .args) sent (marked rows′) → Noted (regrown S rows′) names′ p q
   sent-noted sent {rows′ = rows′} a sends takes =
       noted-taken a (λ l m few. marked-inside (S .rows) _ rows′ _ (λ o h on. takes m few o h (inside-marked (S .rows) _ sent m (sends l m few) o h on)))
+
+-- to begin with, what is sent is what the parameters have
+pub asked-begun : (S : Setting) (p : Side) {sent : List ℕ} → SentIf true (S .rows) (p .node) (replicate 32 0) sent → Asked S p sent
+asked-begun S p x M rule below m few o h on =
+    elim (or-split (marked (replicate 32 0) m o) _ (sym (x .is m o h) ∙ on)) [
+      | inl k ↦ absurd (true≢false (sym k ∙ marked-none 32 m o))
+      | inr k ↦ below _ o h (and-split (ltb m (p .node .arity)) _ k .1)
+    ]
 
 -- what was sent stays so while more is
 pub sent-more : (S : Setting) (p q : Side) {on : Bool} {r : Record} {sent sent′ : List ℕ} → SentIf on (S .rows) r sent sent′ → Sends S p sent q

@@ -50,6 +50,10 @@ pub record SentIf (on : Bool) (rows : List ℕ) (r : Record) (sent sent′ : Lis
   pub size : length sent′ ≡ length sent
   pub is : (m o : ℕ) → o < 256 → marked sent′ m o ≡ marked sent m o || (on && (ltb m (r .arity) && marked rows (getD (r .args) m 0) o))
 
+-- what a record sends as argument m is in the list
+abbrev pub sentAt : List ℕ → Record → List ℕ → ℕ → Bool
+sentAt rows r sent m = inside rows (getD (r .args) m 0) sent m
+
 -- row u contains row v of the list, and the rows of n parameters what is sent to each
 abbrev pub Asks : ℕ → List ℕ → ℕ → Rows → Type 0
 Asks u sent v M = (o : ℕ) → o < 256 → marked sent v o ≡ true → M u o ≡ true

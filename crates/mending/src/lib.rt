@@ -23,7 +23,7 @@ ghost use Rattle.flows.specs.Written.{rewritten};
 ghost use Rattle.pairs.specs.Pairs.{setting, Given, liveBy, Rooms, NameRow};
 ghost use Rattle.senders.specs.Sets.{family, SentRows, Member, Linked};
 ghost use Rattle.filter.specs.Filter.{ArgRows};
-ghost use Rattle.mending.specs.Growing.{Grew, Added, SentIf, Takes, RuleThree, Noted, Stale};
+ghost use Rattle.mending.specs.Growing.{Grew, Added, SentIf, sentAt, Takes, RuleThree, Noted, Stale};
 ghost use Rattle.mending.specs.Growing.{setClear, LargeSets, SetNoted, AllNoted, NodeNoted, Swept, Clean, Finished, OwnMarked};
 use layout::Sizes;
 use pairs::Side;
@@ -72,7 +72,24 @@ fn join_args(sent: &mut [u64], rows: &[u64], file: &[u8], t: Trailer, q: Side)
     }
 }
 
-// The same where p and q are a live pair.
+// All that q sends is there already.
+fn sent_already(sent: &[u64], rows: &[u64], file: &[u8], t: Trailer, q: Side) -> bool
+    requires { ⌜ (length (now sent) ≡ 32) × SentRows (now rows) (q .node) × RecordsFit (now file) t × Reads (now file) t (q .number) (q .node) ⌝ }
+    ensures { λ b. ⌜ b ≡ every (q .node .arity) (sentAt (now (rows .entry)) (q .node) (now (sent .entry))) ⌝ }
+{
+    let own = q.number;
+    let arity = q.node.arity;
+    let mut m: usize = 0;
+    while m < arity {
+        if !marks::contained(rows, records::arg_at(file, t, own, m), sent, m) {
+            return false;
+        }
+        m += 1;
+    }
+    true
+}
+
+// What is sent gets the rows of what q sends, where p and q are a live pair. As in a check, balances are asked last.
 fn join_pair(
     sent: &mut [u64],
     rows: &[u64],
@@ -90,13 +107,19 @@ fn join_pair(
     ensures { λ _. ⌜ SentIf (liveBy (now (rows .entry)) (now (loads .entry)) (now (rooms .entry)) balances p q) (now (rows .entry)) (q .node)
         (now (sent .entry)) (now (sent .exit)) ⌝ }
 {
-    if pairs::live(balances, rows, loads, rooms, p, q) {
+    if !pairs::meet(rows, p, q) {
+        return;
+    }
+    if sent_already(sent, rows, file, t, q) {
+        return;
+    }
+    if pairs::fits_beside(balances, loads, rooms, q.number) {
         join_args(sent, rows, file, t, q);
     }
 }
 
-// The pairs of p and the senders that the links of set g pass. What those of live pairs send is joined first, and compared with the parameters' rows once.
-// Of p's differences rule 3 asks for the rooms alone.
+// The pairs of p and the senders that the links of set g pass. What those of live pairs send is joined to what the parameters have, and then added to their
+// rows. Of p's differences rule 3 asks for the rooms alone.
 fn mend_members(
     rows: &mut [u64],
     names: &mut [u64],
@@ -123,6 +146,7 @@ fn mend_members(
     let mut rooms = [0u32; 24];
     pairs::differences(&mut gives, &mut rooms, balances, loads, bounds, p);
     let mut sent = [0u64; 32];
+    join_args(&mut sent, rows, file, t, p);
     let mut next = wire::number_index(links[senders::last_link(g)]);
     while 0 < next {
         let j = next - 1;

@@ -29,7 +29,7 @@ pub struct Side {
 }
 
 // q sends, by p's arity, on a channel that may be p's.
-fn meet(rows: &[u64], p: Side, q: Side) -> bool
+pub fn meet(rows: &[u64], p: Side, q: Side) -> bool
     requires { ⌜ (isAgent (nodeOf (p .node)) ≡ true) × NameRow (now rows) p × NameRow (now rows) q ⌝ }
     ensures { λ b. ⌜ b ≡ meets (now (rows .entry)) p q ⌝ }
 {
@@ -125,7 +125,7 @@ pub fn differences(
 }
 
 // No balance has the weights of the receiver and of node j above its bound. The loop has no way out, so that several balances are compared at once.
-fn fits_beside(balances: usize, loads: &[u32], rooms: &[u32], j: usize) -> bool
+pub fn fits_beside(balances: usize, loads: &[u32], rooms: &[u32], j: usize) -> bool
     requires { ⌜ Rooms balances (now loads) (now rooms) j ⌝ }
     ensures { λ b. ⌜ b ≡ every balances (fitsBeside (now (loads .entry)) (now (rooms .entry)) j) ⌝ }
 {
@@ -139,7 +139,7 @@ fn fits_beside(balances: usize, loads: &[u32], rooms: &[u32], j: usize) -> bool
 }
 
 // Receiver p and q are a live pair.
-pub fn live(balances: usize, rows: &[u64], loads: &[u32], rooms: &[u32], p: Side, q: Side) -> bool
+fn live(balances: usize, rows: &[u64], loads: &[u32], rooms: &[u32], p: Side, q: Side) -> bool
     requires { ⌜ Rooms balances (now loads) (now rooms) (q .number) ⌝ }
     requires { ⌜ (isAgent (nodeOf (p .node)) ≡ true) × NameRow (now rows) p × NameRow (now rows) q ⌝ }
     ensures { λ b. ⌜ b ≡ liveBy (now (rows .entry)) (now (loads .entry)) (now (rooms .entry)) balances p q ⌝ }

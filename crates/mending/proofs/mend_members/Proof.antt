@@ -1,23 +1,22 @@
--- The senders of the set from the next one on were looked at: what live ones send is among what is sent, and nothing else is.
+-- The senders of the set from the next one on were looked at: what live ones send is among what is sent, and all of that is in every choice of rows.
 use denote.Ref.{now}
 use Prim.Native.Nat.{ℕ, _+_, _-_, _≤_, _<_}
 use mathlib.Core.List.{List}
 use lib.ListN.{length, getD}
 use mathlib.Core.Path.{_≡_, refl, sym, _∙_, subst}
-use mathlib.Core.Bool.{Bool, true≢false}
+use mathlib.Core.Bool.{Bool}
 use borrow.Author.Needs.{needs}
 use native.Mathlib.Omega.{arith}
-use Rattle.marks.proofs.Laws.{marked-none}
 use Rattle.arrays.proofs.Agents.{left-below, small-arity}
 use Rattle.pairs.specs.declared.Side.{Side}
 use Rattle.pairs.specs.Pairs.{Setting, Given, Held, setting, DifferencesOf}
-use Rattle.pairs.proofs.Laws.{alive, agent-p, name-row}
+use Rattle.pairs.proofs.Laws.{alive, agent-p, name-row, arg-row}
 use Rattle.pairs.proofs.Search.{sideAt}
 use Rattle.pairs.proofs.ByDifference.{rooms-there, live-by}
 use Rattle.senders.proofs.Laws.{askable}
 use Rattle.mending.specs.Growing.{SentIf, RuleThree}
 use Rattle.mending.proofs.Growth.{grew-by}
-use Rattle.mending.proofs.Noting.{Asked, Sends, asked-more, sent-here, sent-more, sent-noted}
+use Rattle.mending.proofs.Noting.{Asked, Sends, asked-begun, asked-more, sent-here, sent-more, sent-noted}
 use Rattle.mending.proofs.Along.{held-at, sends-at, AtLink, links-begun, link-node, link-down, links-more, links-done}
 use Rattle.mending.proofs.mend_members.Statement.{statement}
 use Rattle.mending.proofs.mend_members.Tie as tie
@@ -43,21 +42,27 @@ differences-requires c κs =
     let half = g .weighed .half in
     ((refl, refl, g .lists .manyBounds, g .lists .few), (half _ (hp .below), half _ (left-below (g .read) hp (agent-p g hp (pre .1 .0 .1) hp))))
 
--- the start, seen from the loop by way of the differences
-abbrev prepared : tie.At-loop Inv-loop μ-loop → tie.After-differences Inv-loop μ-loop
-prepared c = c .before .before .before .before .before .before
+-- the start, seen from the loop by way of what the parameters have, and of the differences
+abbrev filled : tie.At-loop Inv-loop μ-loop → tie.After-join-args Inv-loop μ-loop
+filled c = c .before .before .before .before .before
+
+abbrev prepared : tie.After-join-args Inv-loop μ-loop → tie.After-differences Inv-loop μ-loop
+prepared c = c .before .before .before .before .before
 
 abbrev begun : tie.After-differences Inv-loop μ-loop → tie.Start Inv-loop μ-loop
 begun c = let r = c .before in r .before .before .before .before .before .before .before .before
 
+abbrev under : tie.Start Inv-loop μ-loop → Setting
+under s =
+    let x = s .args in
+    setting (now (x .file)) (x .t) (x .balances) (now (x .rows)) (now (x .loads)) (now (x .bounds))
+
 module _ (c : tie.At-loop Inv-loop μ-loop) where
   abbrev s : tie.Start Inv-loop μ-loop
-  s = begun (prepared c)
+  s = begun (prepared (filled c))
 
   abbrev S : Setting
-  S =
-      let x = s .args in
-      setting (now (x .file)) (x .t) (x .balances) (now (x .rows)) (now (x .loads)) (now (x .bounds))
+  S = under s
 
   given : Given S
   given = s .pre .0 .0
@@ -65,8 +70,8 @@ module _ (c : tie.At-loop Inv-loop μ-loop) where
   hp : Held S (s .args .p)
   hp = s .pre .1 .0 .0
 
-  differ : DifferencesOf S (s .args .p) (prepared c .differences .last .0) (prepared c .differences .last .1 .0)
-  differ = let d = prepared c .differences in record { manyGives = d .kept .0; manyRooms = d .kept .1 .0; are = d .ensures }
+  differ : DifferencesOf S (s .args .p) (prepared (filled c) .differences .last .0) (prepared (filled c) .differences .last .1 .0)
+  differ = let d = prepared (filled c) .differences in record { manyGives = d .kept .0; manyRooms = d .kept .1 .0; are = d .ensures }
 
 -- a sender of the set
 module _ (c : tie.In-loop Inv-loop μ-loop) where
@@ -99,17 +104,25 @@ module _ (c : tie.After-node-at Inv-loop μ-loop) where
   hq : Held (S (a i)) q
   hq = record { below = below i; is = c .node-at .ensures }
 
+join-args-requires : tie.Need-join-args-requires Inv-loop μ-loop
+join-args-requires c κs =
+    let p = begun (c .before .before .before .before) .pre in
+    let g = p .0 .0 in
+    let hp = p .1 .0 .0 in
+    (refl, record { few = small-arity (g .read) hp; args = arg-row g hp (agent-p g hp (p .1 .0 .1) hp) }, omega (arith, g .read .fills), hp)
+
 loop-holds : tie.Need-loop-holds Inv-loop μ-loop
 loop-holds c =
-    let x = begun (c .before .before .before .before .before) .args in (
-      refl,
-      λ M rule below m few o h on. absurd (true≢false (sym on ∙ marked-none 32 m o)),
+    let j = c .before .before .before .before in
+    let x = begun (prepared j) .args in (
+      j .join-args .ensures .size,
+      asked-begun (under (begun (prepared j))) (x .p) (j .join-args .ensures),
       rw (c .number-index .ensures .0, c .before .before .last-link .ensures) (links-begun _ (x .g) (now (x .links)) _),
     )
 
 shared-slice-read-number-index : tie.Need-shared-slice-read-number-index Inv-loop μ-loop
 shared-slice-read-number-index c =
-    let p = begun (c .before .before .before .before) .pre in
+    let p = begun (prepared (c .before .before .before)) .pre in
     rw (c .before .last-link .ensures) (omega (arith, p .0 .2, p .1 .1 .2 .size))
 
 node-at-requires : tie.Need-node-at-requires Inv-loop μ-loop
@@ -195,7 +208,7 @@ pub mend-members-spec : {M : Type 1} → statement M
 mend-members-spec =
     tie.close
     (tie.spec
-    Inv-loop μ-loop (λ c. search needs) (λ c. search needs) differences-requires (λ c κs. search needs) (λ c. search needs)
-    shared-slice-read-number-index (λ c κs. search needs) loop-holds (λ c. search needs) node-at-requires (λ c. search needs) (λ c. search needs)
-    join-pair-requires mul-number-index-2 shared-slice-read-number-index-2 (λ c κs. search needs) loop-less loop-again (λ c. search needs)
-    add-args-requires same-length same-length-2 returns)
+    Inv-loop μ-loop (λ c. search needs) (λ c. search needs) differences-requires (λ c. search needs) join-args-requires (λ c κs. search needs)
+    (λ c. search needs) shared-slice-read-number-index (λ c κs. search needs) loop-holds (λ c. search needs) node-at-requires (λ c. search needs)
+    (λ c. search needs) join-pair-requires mul-number-index-2 shared-slice-read-number-index-2 (λ c κs. search needs) loop-less loop-again
+    (λ c. search needs) add-args-requires same-length same-length-2 returns)
