@@ -6,9 +6,11 @@ mod defeats;
 mod fleet;
 mod travels;
 
-pub use defeats::{defeat, defeat3, defeat_sparse, ended, flooded_spread, within, within_rows, within_sparse, within_spread};
+pub use defeats::{
+    defeat, defeat3, defeat_sparse, ended, flooded_spread, within, within_rows, within_sparse, within_spread,
+};
 pub use fleet::{fleet, fleet_mixed};
-pub use travels::{emptied, flooded, own_channels, received_on, sent_on, waves, with_rows};
+pub use travels::{emptied, flooded, mended, own_channels, received_on, sent_on, waves, with_rows};
 
 use crate::files::{array_file, chain, record, table_file, Agent, Balance, Claim, Record, IN, NEW, OUT, PAR};
 use outside::order;

@@ -160,7 +160,11 @@ fn mendings() {
     mend("fleet, all rows empty", &designs::emptied(designs::fleet(FLEET)), 0);
     mend("fleet_mixed, all rows empty", &designs::emptied(designs::fleet_mixed(FLEET)), 0);
     mend("flooded", &designs::flooded(), 0);
-    mend("flooded_spread", &designs::flooded_spread(24), 0);
+    for arity in [8, 2, 1] {
+        let files = designs::flooded_spread(arity, 24);
+        mend(&format!("flooded_spread, arity {arity}"), &files, 0);
+        mend(&format!("flooded_spread, arity {arity}, held"), &designs::mended(files), 0);
+    }
     mend("sent_on", &designs::sent_on(255), 0);
     mend("own_channels", &designs::own_channels(128), 0);
     mend("received_on", &designs::received_on(254), 0);

@@ -134,18 +134,19 @@ pub fn within_rows(nodes: usize, names: usize, balances: usize) -> Files {
     weighed(&records, &all_but_one(names), &weights, balances)
 }
 
-/// `flooded`, all rows empty, with a heavy sender after every eighth that sends a channel which no parameter gets.
-pub fn flooded_spread(balances: usize) -> Files {
+/// `flooded` by agents of that arity, all rows empty, with a heavy sender after every seventh that sends a channel which
+/// no parameter gets.
+pub fn flooded_spread(arity: usize, balances: usize) -> Files {
     let (channel, idle, news) = (0, 1, 128);
-    let sent = |i: usize| (0..8).map(|k| (2 + (i + k) % (news - 2)) as u8).collect();
-    let params = |i: usize| (0..8).map(|k| (news + 8 * i + k) as u8).collect();
-    let receivers: Vec<Agent> = (0..16).map(|i| (IN, channel, params(i))).collect();
+    let sent = |i: usize| (0..arity).map(|k| (2 + (i + k) % (news - 2)) as u8).collect();
+    let params = |i: usize| (0..arity).map(|k| (news + arity * i + k) as u8).collect();
+    let receivers: Vec<Agent> = (0..news / arity).map(|i| (IN, channel, params(i))).collect();
     let mut senders = vec![];
     for i in 0..news {
         senders.push(((OUT, channel, sent(i)), SENDER));
-        if i % 8 == 7 {
+        if i % 7 == 6 {
             senders.push(((IN, idle, vec![]), SENDER));
-            senders.push(((OUT, channel, vec![channel as u8; 8]), HEAVY[i / 8 % 2]));
+            senders.push(((OUT, channel, vec![channel as u8; arity]), HEAVY[i / 7 % 2]));
         }
     }
     let (senders, of_senders): (Vec<Agent>, Vec<Weights>) = senders.into_iter().unzip();
@@ -168,6 +169,7 @@ fn in_turn(kind: u8, count: usize, turn: usize) -> Vec<Weighed> {
 
 #[cfg(test)]
 mod tests {
+    use super::super::mended;
     use super::*;
     use outside::files::TableFile;
     use plain::rules::{live, loads};
@@ -221,12 +223,6 @@ mod tests {
         assert!(table.balances.iter().all(|balance| balance.weights.iter().all(|w| u32::from(*w) <= balance.bound)));
     }
 
-    fn mended(files: Files) -> Files {
-        let mut table = files.table.clone();
-        plain::mend(&files.array, &files.table, &mut table).unwrap();
-        Files { table, ..files }
-    }
-
     #[test]
     fn sets_of_senders_decide_nothing() {
         defeats(pairs(&defeat(1024, 24)), usize::MAX);
@@ -239,7 +235,9 @@ mod tests {
         defeats_within(&within_sparse(1024, 128, 24), usize::MAX);
         defeats_within(&within_rows(1024, 256, 24), usize::MAX);
         defeats_within(&ended(1024, 24), 2);
-        defeats_within(&mended(flooded_spread(24)), 9);
+        for arity in [1, 2, 8] {
+            defeats_within(&mended(flooded_spread(arity, 24)), 8);
+        }
     }
 
     #[test]

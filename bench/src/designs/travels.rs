@@ -52,6 +52,13 @@ pub fn with_rows(mut files: Files, row: impl Fn(usize) -> [u8; ROW]) -> Files {
     files
 }
 
+/// The same files with the table mended.
+pub fn mended(files: Files) -> Files {
+    let mut table = files.table.clone();
+    plain::mend(&files.array, &files.table, &mut table).expect("a table to mend");
+    Files { table, ..files }
+}
+
 pub fn emptied(files: Files) -> Files {
     with_rows(files, |_| [0; ROW])
 }

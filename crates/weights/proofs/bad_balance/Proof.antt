@@ -29,11 +29,15 @@ abbrev marked : tie.After-agents3 Inv-loop μ-loop → tie.After-mark-agents Inv
 marked c = c .before .before .before .before .before .before
 
 abbrev begun : tie.After-mark-agents Inv-loop μ-loop → tie.Start Inv-loop μ-loop
-begun c = c .before .before .before .before
+begun c = c .before .before .before .before .before .before
+
+returns : tie.Need-returns Inv-loop μ-loop
+unfolding refusal20
+returns c = rw (c .if1 .taken) (sym (first-zero _))
 
 mark-agents-requires : tie.Need-mark-agents-requires Inv-loop μ-loop
 mark-agents-requires c κs =
-    let p = c .before .before .before .pre in
+    let p = c .before .before .before .before .before .pre in
     (p .0, p .1)
 
 loop-holds : tie.Need-loop-holds Inv-loop μ-loop
@@ -43,13 +47,13 @@ loop-holds c = (search needs, first-zero _)
 weights-fit-requires : tie.Need-weights-fit-requires Inv-loop μ-loop
 weights-fit-requires c κs =
     let s = begun (marked c) in
-    let fits = balance-fits (s .args .z) (c .before .before .before .before .loop .k) (c .before .before .if1 .taken) in
+    let fits = balance-fits (s .args .z) (c .before .before .before .before .loop .k) (c .before .before .if2 .taken) in
     (subst (λ (n : ℕ). s .args .t .nodes ≤ n) (sym (marked c .mark-agents .kept .0)) (s .pre .1), search needs)
 
 padding-fits-requires : tie.Need-padding-fits-requires Inv-loop μ-loop
 padding-fits-requires c κs =
     let s = begun (marked (c .before)) in
-    let fits = balance-fits (s .args .z) (c .before .before .before .before .before .loop .k) (c .before .before .before .if1 .taken) in
+    let fits = balance-fits (s .args .z) (c .before .before .before .before .before .loop .k) (c .before .before .before .if2 .taken) in
     search needs
 
 -- both tests together say what 01 asks of a balance: by the marks, only agents have a weight
@@ -67,22 +71,22 @@ tested c =
     ap₂ _&&_ (c .before .weights-fit .ensures ∙ weights ∙ ap (weightsFit a (now (x .table))) (at .ensures))
     (c .padding-fits .ensures ∙ ap (paddingFits a (now (x .table))) (at .ensures))
 
-returns : tie.Need-returns Inv-loop μ-loop
+returns-2 : tie.Need-returns-2 Inv-loop μ-loop
 unfolding refusal20
-returns c =
+returns-2 c =
     let l = c .before .before .before .before .before .before .before .loop in
-    let fails = sym (tested (c .before)) ∙ not-true _ (c .if2 .taken) in
+    let fails = sym (tested (c .before)) ∙ not-true _ (c .if3 .taken) in
     sym (first-here _ _ _ _ (l .inv .1) (hit-test _ _ fails) (search needs))
 
 loop-again : tie.Need-loop-again Inv-loop μ-loop
 loop-again c =
     let l = c .before .before .before .before .before .before .before .loop in
-    let passes = sym (tested (c .before)) ∙ not-false _ (c .if2 .left) in
+    let passes = sym (tested (c .before)) ∙ not-false _ (c .if3 .left) in
     (search needs, first-pass _ _ (l .inv .1) (clear-test _ _ passes))
 
-returns-2 : tie.Need-returns-2 Inv-loop μ-loop
+returns-3 : tie.Need-returns-3 Inv-loop μ-loop
 unfolding refusal20
-returns-2 c =
+returns-3 c =
     let e : c .before .before .loop .k ≡ begun (c .before .before .before .before) .args .z .balances = omega arith in
     sym (rw e at (c .before .before .loop .inv .1))
 
@@ -90,5 +94,5 @@ pub bad-balance-spec : {M : Type 1} → statement M
 bad-balance-spec =
     tie.close
     (tie.spec
-    Inv-loop μ-loop (λ c. search needs) mark-agents-requires loop-holds (λ c κs. search needs) (λ c. search needs) weights-fit-requires
-    padding-fits-requires returns (λ c. search needs) (λ c. search needs) loop-again returns-2)
+    Inv-loop μ-loop returns (λ c. search needs) mark-agents-requires loop-holds (λ c κs. search needs) (λ c. search needs) weights-fit-requires
+    padding-fits-requires returns-2 (λ c. search needs) (λ c. search needs) loop-again returns-3)
