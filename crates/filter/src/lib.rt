@@ -375,7 +375,7 @@ fn ask(
     )
 }
 
-// The first node that may be the receiver of a live pair which breaks the rule: nothing is found below it.
+// The first node that may be the receiver of a live pair which breaks the rule: nothing is found below it. Without a balance rule 4 has no figures.
 pub fn first_suspect(
     rule: u8,
     file: &[u8],
@@ -389,6 +389,9 @@ pub fn first_suspect(
     ensures { λ n. ⌜ (n ≤ t .nodes) × Screened rule (arrayOf (now (file .entry)) t)
         (listTable (now (rows .entry)) (now (loads .entry)) (now (bounds .entry)) balances) n ⌝ }
 {
+    if (rule != 3) & (balances == 0) {
+        return t.nodes;
+    }
     let from = ask(0, rule, file, t, balances, rows, loads, bounds, false);
     if from == t.nodes {
         return from;
