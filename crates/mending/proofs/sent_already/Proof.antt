@@ -1,6 +1,6 @@
 -- The arguments passed are there.
 use Prim.Native.Nat.{ℕ, _≤_, _-_}
-use mathlib.Core.Path.{_≡_, sym, ap, _∙_, subst}
+use mathlib.Core.Path.{_≡_, sym, _∙_, subst}
 use mathlib.Core.Bool.{Bool, true}
 use denote.Ref.{now}
 use lib.ListN.{getD}
@@ -9,7 +9,7 @@ use borrow.Author.Needs.{needs}
 use native.Mathlib.Omega.{arith}
 use Rattle.laws.specs.Search.{every}
 use Rattle.laws.proofs.Search.{every-zero, every-pass, false-every}
-use Rattle.marks.specs.Marks.{HasRow, inside}
+use Rattle.marks.specs.Marks.{HasRow}
 use Rattle.records.specs.declared.Record.{Record}
 use Rattle.records.specs.Record.{recordOf}
 use Rattle.mending.specs.Growing.{sentAt}
