@@ -26,7 +26,7 @@ use Rattle.pairs.specs.declared.Side.{Side}
 use Rattle.pairs.specs.Pairs.{Setting, setting, Given, Held, arrayIn, tableIn, bearsBoth, argumentHolds, breaksPair}
 use Rattle.pairs.proofs.Laws.{alive, live-near, meet-sends, live-is, agent-p, arities, arg-is}
 use Rattle.senders.specs.Sets.{sendsMarked}
-use Rattle.mending.specs.Growing.{Below, Grew, SentIf, Takes, RuleThree, touches, Noted}
+use Rattle.mending.specs.Growing.{Below, Grew, SentIf, sentAt, Takes, RuleThree, touches, Noted}
 use Rattle.mending.proofs.Growth.{unnoted}
 
 -- a setting with other rows
@@ -68,7 +68,7 @@ Asked S p sent = (M : Rows) → RuleThree S M → Below (S .rows) M → Takes (p
 -- q's arguments are among it, where the pair is live
 abbrev pub Sends : Setting → Side → List ℕ → Side → Type 0
 Sends S p sent q =
-    alive S p q ≡ true → (m : ℕ) → m < p .node .arity → inside (S .rows) (getD (q .node .args) m 0) sent m ≡ true
+    alive S p q ≡ true → (m : ℕ) → m < p .node .arity → sentAt (S .rows) (q .node) sent m ≡ true
 
 -- ---- what was noted stays noted
 

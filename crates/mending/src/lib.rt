@@ -58,7 +58,7 @@ fn add_args(rows: &mut [u64], names: &mut [u64], sent: &[u64], p: Record)
     }
 }
 
-// What is sent gets the rows of what q sends.
+// What is sent gets the rows of q's arguments: what a sender sends, or a receiver's parameters.
 fn join_args(sent: &mut [u64], rows: &[u64], file: &[u8], t: Trailer, q: Side)
     requires { ⌜ (length (now sent) ≡ 32) × SentRows (now rows) (q .node) × RecordsFit (now file) t × Reads (now file) t (q .number) (q .node) ⌝ }
     ensures { λ _. ⌜ SentIf true (now (rows .entry)) (q .node) (now (sent .entry)) (now (sent .exit)) ⌝ }
@@ -89,7 +89,7 @@ fn sent_already(sent: &[u64], rows: &[u64], file: &[u8], t: Trailer, q: Side) ->
     true
 }
 
-// What is sent gets the rows of what q sends, where p and q are a live pair. As in a check, balances are asked last.
+// What is sent gets the rows of what q sends, where p and q are a live pair. As in `pairs::breaks`, balances are asked last.
 fn join_pair(
     sent: &mut [u64],
     rows: &[u64],
