@@ -41,7 +41,9 @@ returns-2 : tie.Need-returns-2
 returns-2 c = c .before .before .ask .ensures
 
 ask-requires-2 : tie.Need-ask-requires-2
-ask-requires-2 c κs = (c .before .before .before .before .before .before .before .before .pre, c .before .before .ask .ensures .0, c .before .before .ask .ensures .1)
+ask-requires-2 c κs =
+    let a = c .before .before in
+    (a .before .before .before .before .before .before .pre, a .ask .ensures .0, a .ask .ensures .1)
 
 returns-3 : tie.Need-returns-3
 returns-3 c = c .ask2 .ensures
