@@ -3,18 +3,20 @@ use Prim.Native.Nat.{ℕ, _+_, _-_, _≤_, _<_}
 use native.Mathlib.Omega.{arith}
 use mathlib.Core.Path.{_≡_, refl, sym, subst}
 use mathlib.Core.Logic.{inl, inr}
+use mathlib.Core.Bool.{true}
 use mathlib.Core.List.{List}
 use lib.Dec.{eqb, ltb}
 use lib.ListN.{getD}
 use borrow.Author.Tests.{ltb-true, ltb-false, eqb-true, eqb-false}
-use Rattle.laws.proofs.Search.{decided}
+use Rattle.laws.proofs.Search.{decided, and-split}
+use Rattle.model.specs.Memory.{isOut}
 use Rattle.records.specs.declared.Record.{Record}
-use Rattle.records.specs.Record.{recordOf}
+use Rattle.records.specs.Record.{nodeOf, recordOf}
 use Rattle.pairs.specs.declared.Side.{Side}
 use Rattle.pairs.specs.Pairs.{Setting, Held}
 use Rattle.pairs.proofs.Search.{sideAt}
 use Rattle.senders.specs.Sets.{Member, Linked}
-use Rattle.mending.proofs.Noting.{Sends}
+use Rattle.mending.specs.Growing.{Sends}
 
 -- a node of the file
 pub held-at : (S : Setting) (j : ℕ) → j < S .t .nodes → Held S (sideAt S j)
@@ -46,6 +48,10 @@ module _ (S : Setting) (g : ℕ) (links : List ℕ) (P : ℕ → Type 0) where
   module _ (j : ℕ) (a : AtLink S g links P (j + 1)) (some : SomeSets S links) where
     pub link-node : j < S .t .nodes
     link-node = a (some .0) (some .1) (some .2) .of j refl .0
+
+    -- that sends
+    pub link-sends : isOut (nodeOf (recordOf (S .f) (S .t) j)) ≡ true
+    link-sends = and-split _ _ (a (some .0) (some .1) (some .2) .of j refl .1) .0
 
     pub link-down : getD links j 0 ≤ j
     link-down =

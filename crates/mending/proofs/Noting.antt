@@ -1,14 +1,15 @@
 -- Pairs while rows grow: what breaks rule 3 uses a noted name, before and after.
-use Prim.Native.Nat.{ℕ, _<_}
+use Prim.Native.Nat.{ℕ, _+_, _≤_, _<_}
+use native.Mathlib.Omega.{arith}
 use mathlib.Core.Path.{_≡_, refl, sym, ap, ap₂, _∙_, subst}
 use mathlib.Core.Logic.{inl, inr}
 use mathlib.Core.Bool.{Bool, true, false, _&&_, _||_, true≢false}
 use mathlib.Core.List.{List}
 use lib.Dec.{eqb, ltb}
 use lib.ListN.{length, getD, replicate}
-use borrow.Author.Tests.{lt-ltb, not-true, not-false}
+use borrow.Author.Tests.{lt-ltb, ltb-false, leb-true, le-leb, not-true, not-false}
 use Rattle.laws.specs.Search.{every}
-use Rattle.laws.proofs.Search.{decided, and-split, and-join, or-split, or-right, or-left, or-false, every-true, every-false, any-same, true-any}
+use Rattle.laws.proofs.Search.{decided, and-split, and-join, or-split, or-right, or-left, or-false, every-true, true-every, every-false, any-same, true-any}
 use Rattle.laws.proofs.Search.{any-false, any-true}
 use Rattle.marks.specs.Marks.{marked, share, inside}
 use Rattle.marks.proofs.Laws.{marked-none, inside-marked, marked-inside}
@@ -22,11 +23,12 @@ use Rattle.records.specs.Kinds.{isReceiver}
 use Rattle.records.proofs.KindLaws.{sender-is}
 use Rattle.arrays.specs.Agents.{agentIn}
 use Rattle.arrays.proofs.Agents.{agent-is, arity-is}
+use Rattle.loads.specs.Loads.{loadIn}
 use Rattle.pairs.specs.declared.Side.{Side}
 use Rattle.pairs.specs.Pairs.{Setting, setting, Given, Held, arrayIn, tableIn, bearsBoth, argumentHolds, breaksPair}
-use Rattle.pairs.proofs.Laws.{alive, live-near, meet-sends, live-is, agent-p, arities, arg-is}
+use Rattle.pairs.proofs.Laws.{near, alive, live-near, meet-sends, live-is, agent-p, arities, arg-is}
 use Rattle.senders.specs.Sets.{sendsMarked}
-use Rattle.mending.specs.Growing.{Below, Grew, SentIf, sentAt, Takes, RuleThree, touches, Noted}
+use Rattle.mending.specs.Growing.{Below, Grew, SentIf, Takes, Source, Gained, Only, Sends, Hears, RuleThree, touches, Noted}
 use Rattle.mending.proofs.Growth.{unnoted}
 
 -- a setting with other rows
@@ -64,11 +66,6 @@ module _ (names : List ℕ) (p q : Side) (e : touches names p q ≡ false) where
 -- what is sent to p is in every choice of rows that meet rule 3 and contain these
 abbrev pub Asked : Setting → Side → List ℕ → Type 0
 Asked S p sent = (M : Rows) → RuleThree S M → Below (S .rows) M → Takes (p .node .arity) (p .node .args) sent M
-
--- q's arguments are among it, where the pair is live
-abbrev pub Sends : Setting → Side → List ℕ → Side → Type 0
-Sends S p sent q =
-    alive S p q ≡ true → (m : ℕ) → m < p .node .arity → sentAt (S .rows) (q .node) sent m ≡ true
 
 -- ---- what was noted stays noted
 
@@ -149,17 +146,8 @@ module _ {S : Setting} (g : Given S) {p : Side} (hp : Held S p) (rp : isReceiver
       (rule (p .number) (hp .below) (q .number) (hq .below) P Q (agent-is (g .read) hp agent) (agent-is (g .read) hq other) more m few′ o h
       (subst (λ (x : ℕ). M x o ≡ true) (sym (arg-is (q .node) m also)) on))
 
-  -- what is sent is all that live pairs send, and nothing that rows which meet rule 3 can do without
+  -- what a live pair sends is in the list
   module _ {sent sent′ : List ℕ} (x : SentIf (alive S p q) (S .rows) (q .node) sent sent′) where
-    pub asked-more : Asked S p sent → Asked S p sent′
-    asked-more was M rule below m few o h on =
-        elim (or-split (marked sent m o) _ (sym (x .is m o h) ∙ on)) [
-          | inl k ↦ was M rule below m few o h k
-          | inr k ↦
-              let l = and-split (alive S p q) _ k in
-              matched (l .0) M rule below m few o h (below _ o h (and-split (ltb m (q .node .arity)) _ (l .1) .1))
-        ]
-
     pub sent-here : Sends S p sent′ q
     sent-here l m few =
         let also : m < q .node .arity = subst (λ (n : ℕ). m < n) (arities g hp rp hq (live-near S p q l)) few in
@@ -171,6 +159,94 @@ module _ {S : Setting} (g : Given S) {p : Side} (hp : Held S p) (rp : isReceiver
       → Takes (p .node .arity) (p .node .args) sent (marked rows′) → Noted (regrown S rows′) names′ p q
   sent-noted sent {rows′ = rows′} a sends takes =
       noted-taken a (λ l m few. marked-inside (S .rows) _ rows′ _ (λ o h on. takes m few o h (inside-marked (S .rows) _ sent m (sends l m few) o h on)))
+
+-- ---- what live senders send
+
+module _ (S : Setting) (p : Side) where
+  pub gained-same : (sent : List ℕ) → Gained S p sent sent
+  gained-same sent = record { size = refl; from = λ m o h on. inl on }
+
+  pub gained-trans : {a b c : List ℕ} → Gained S p a b → Gained S p b c → Gained S p a c
+  gained-trans x y = record {
+    size = y .size ∙ x .size;
+    from = λ m o h on. elim (y .from m o h on) [ inl k ↦ x .from m o h k | inr k ↦ inr k ];
+  }
+
+  -- one sender more
+  pub gained-more : {q : Side} → Held S q → {a b : List ℕ} → SentIf (alive S p q) (S .rows) (q .node) a b → Gained S p a b
+  gained-more {q} hq {a} x = record {
+    size = x .size;
+    from = λ m o h on.
+        elim (or-split (marked a m o) _ (sym (x .is m o h) ∙ on)) [
+          | inl k ↦ inl k
+          | inr k ↦
+              let l = and-split (alive S p q) _ k in
+              inr record { q = q; held = hq; live = l .0; holds = and-split (ltb m (q .node .arity)) _ (l .1) .1 }
+        ];
+  }
+
+  -- to begin with there is nothing
+  pub gained-only : {sent : List ℕ} → Gained S p (replicate 32 0) sent → Only S p sent
+  gained-only x m o h on = elim (x .from m o h on) [ inl k ↦ absurd (true≢false (sym k ∙ marked-none 32 m o)) | inr k ↦ k ]
+
+-- it is in every choice of rows that meet rule 3 and contain these
+pub gained-asked : {S : Setting} → Given S → {p : Side} → Held S p → isReceiver (nodeOf (p .node)) ≡ true → {sent sent′ : List ℕ} → Gained S p sent sent′
+    → Asked S p sent → Asked S p sent′
+gained-asked g hp rp x was M rule below m few o h on =
+    elim (x .from m o h on) [
+      | inl k ↦ was M rule below m few o h k
+      | inr k ↦ matched g hp rp (k .held) (k .live) M rule below m few o h (below _ o h (k .holds))
+    ]
+
+-- ---- receivers alike
+
+share-more : (rows rows′ : List ℕ) (u v u′ v′ : ℕ) → ((o : ℕ) → o < 256 → marked rows u o ≡ true → marked rows′ u′ o ≡ true)
+    → ((o : ℕ) → o < 256 → marked rows v o ≡ true → marked rows′ v′ o ≡ true) → share rows u rows v ≡ true → share rows′ u′ rows′ v′ ≡ true
+unfolding share
+share-more rows rows′ u v u′ v′ f g e =
+    let x = any-true 256 _ e in
+    let y = and-split _ _ (x .2) in
+    true-any 256 _ (x .0) (x .1) (and-join (f (x .0) (x .1) (y .0)) (g (x .0) (x .1) (y .1)))
+
+-- a sender that is live beside p is so beside r, where r receives by the same arity, on a channel that holds as much, and weighs no more
+module _ (S : Setting) (rows′ : List ℕ) (p r q : Side) (more : (v o : ℕ) → o < 256 → marked (S .rows) v o ≡ true → marked rows′ v o ≡ true) where
+  lives-on : r .node .arity ≡ p .node .arity
+      → ((o : ℕ) → o < 256 → marked (S .rows) (p .node .name) o ≡ true → marked rows′ (r .node .name) o ≡ true)
+      → ((k : ℕ) → k < S .n → loadIn (S .loads) (r .number) k ≤ loadIn (S .loads) (p .number) k) → alive S p q ≡ true → alive (regrown S rows′) r q ≡ true
+  lives-on arity channel light l =
+      let x = and-split (near S p q) _ l in
+      let y = and-split (isOut (nodeOf (q .node)) && eqb (p .node .arity) (q .node .arity)) _ (x .0) in
+      and-join
+      (and-join (subst (λ (n : ℕ). isOut (nodeOf (q .node)) && eqb n (q .node .arity) ≡ true) (sym arity) (y .0))
+      (share-more (S .rows) rows′ (p .node .name) (q .node .name) (r .node .name) (q .node .name) channel (more (q .node .name)) (y .1)))
+      (true-every (S .n) _ (λ k h.
+      le-leb (loadIn (S .loads) (r .number) k + loadIn (S .loads) (q .number) k) (getD (S .bounds) k 0)
+      (omega (
+        arith,
+        leb-true (loadIn (S .loads) (p .number) k + loadIn (S .loads) (q .number) k) (getD (S .bounds) k 0) (every-true (S .n) _ (x .1) k h),
+        light k h,
+      ))))
+
+-- what is sent to p, once rows have grown
+pub only-grew : (S : Setting) (p : Side) (sent rows′ : List ℕ) → ((v o : ℕ) → o < 256 → marked (S .rows) v o ≡ true → marked rows′ v o ≡ true)
+    → Only S p sent → Only (regrown S rows′) p sent
+only-grew S p sent rows′ more only m o h on =
+    let x = only m o h on in
+    record {
+      q = x .q;
+      held = x .held;
+      live = lives-on S rows′ p p (x .q) more refl (more (p .node .name)) (λ k l. omega arith) (x .live);
+      holds = more _ o h (x .holds);
+    }
+
+-- and what is asked of a receiver that hears what p does
+pub only-asked : {S : Setting} → Given S → {p r : Side} → Held S r → Hears (S .rows) (S .loads) (S .n) p r → (sent : List ℕ) → Only S p sent → Asked S r sent
+only-asked {S} g {p} {r} hr x sent only M rule below m few o h on =
+    let s = only m o h on in
+    let l = lives-on S (S .rows) p r (s .q) (λ v y k e. e) (x .arity) (inside-marked (S .rows) _ (S .rows) _ (x .channel))
+    (λ k l. omega (arith, ltb-false (loadIn (S .loads) (p .number) k) (loadIn (S .loads) (r .number) k) (not-true _ (every-true (S .n) _ (x .light) k l))))
+    (s .live) in
+    matched g hr (x .receives) (s .held) l M rule below m few o h (below _ o h (s .holds))
 
 -- to begin with, what is sent is what the parameters have
 pub asked-begun : (S : Setting) (p : Side) {sent : List ℕ} → SentIf true (S .rows) (p .node) (replicate 32 0) sent → Asked S p sent

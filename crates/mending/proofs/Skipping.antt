@@ -1,6 +1,7 @@
 -- Sets of senders that need not be looked at, though they were gathered from rows that have grown since: a sender whose rows have grown uses a noted
 -- name, and of any other the set still keeps what it sends.
 use Prim.Native.Nat.{ℕ, _+_, _<_}
+use native.Mathlib.Omega.{arith}
 use mathlib.Core.Path.{_≡_, sym, ap, _∙_, subst}
 use mathlib.Core.Logic.{inl, inr}
 use mathlib.Core.Bool.{Bool, true, false, not, true≢false, false≢true}
@@ -9,7 +10,7 @@ use lib.ListN.{getD}
 use borrow.Author.Count.{below-more}
 use borrow.Author.Tests.{not-true}
 use Rattle.laws.specs.Search.{every}
-use Rattle.laws.proofs.Search.{decided, and-split, or-split}
+use Rattle.laws.proofs.Search.{decided, and-split, or-split, every-true}
 use Rattle.marks.specs.Marks.{marked, inside}
 use Rattle.marks.proofs.Laws.{inside-marked, marked-inside}
 use Rattle.model.specs.Mend.{Rows}
@@ -19,12 +20,13 @@ use Rattle.records.specs.Record.{nodeOf, recordOf}
 use Rattle.records.specs.Kinds.{isReceiver}
 use Rattle.pairs.specs.declared.Side.{Side}
 use Rattle.pairs.specs.Pairs.{Setting, Given, Held, figuresOf, breaksPair}
-use Rattle.pairs.proofs.Laws.{alive}
+use Rattle.arrays.proofs.Agents.{small-arity}
+use Rattle.pairs.proofs.Laws.{alive, agent-p, name-row, arg-row}
 use Rattle.pairs.proofs.Search.{sideAt}
-use Rattle.senders.specs.Sets.{Family, sendsBy, Covers, Gathered}
+use Rattle.senders.specs.Sets.{Family, sendsBy, Covers, SentRows, Gathered}
 use Rattle.filter.specs.Filter.{mayCome, argInside, figuresPass}
 use Rattle.filter.proofs.Laws.{far-set, whole-set}
-use Rattle.mending.specs.Growing.{Grew, setClear, touches, Noted, Stale, SetNoted, AllNoted, NodeNoted, Swept}
+use Rattle.mending.specs.Growing.{Grew, setClear, touches, Noted, Stale, LargeSets, SetNoted, AllNoted, NodeNoted, Swept}
 use Rattle.mending.proofs.Noting.{regrown, noted-grew, own-off, sent-off}
 
 -- what was gathered from the rows of now
@@ -125,9 +127,42 @@ node-noted S names chosen reach on i r is f p hp e rp there =
     subst (λ (x : Side). AllNoted S names chosen x) (λ z. record { number = sym e z; node = same z })
     (f (ap (λ (x : Record). isReceiver (nodeOf x)) same ∙ rp) (ap (λ (x : Record). marked reach 0 (x .name)) same ∙ there))
 
+-- sets by arity, of rows that have grown since
+abbrev pub large-grew : {C : Rows → Type 0} {f : List ℕ} {t : Trailer} {n : ℕ} {rows loads bounds names chosen unions arities rows′ names′ : List ℕ}
+    → LargeSets f t n rows loads bounds names chosen unions arities → Grew C rows names rows′ names′
+    → LargeSets f t n rows′ loads bounds names′ chosen unions arities
+large-grew k a = (k .0, k .1, stale-grew (k .2) a)
+
+-- what is asked of a receiver's record
+pub channel-there : {S : Setting} → Given S → {p : Side} → Held S p → isReceiver (nodeOf (p .node)) ≡ true
+    → (p .node .name < 256) × SentRows (S .rows) (p .node)
+channel-there g hp rp =
+    let agent = agent-p g hp rp hp in
+    let x = name-row g hp agent in
+    (omega (arith, x, g .lists .manyRows), record { few = small-arity (g .read) hp; args = arg-row g hp agent })
+
+-- a receiver that is out of reach, or whose large sets are clear
+pub clear-node : {S : Setting} → Given S → {p : Side} → Held S p → (names chosen reach : List ℕ) (on : Bool) (unions arities : List ℕ)
+    → LargeSets (S .f) (S .t) (S .n) (S .rows) (S .loads) (S .bounds) names chosen unions arities
+    → (marked reach 0 (p .node .name) ≡ on → every 12 (setClear unions arities (S .rows) p) ≡ true) → NodeNoted S names chosen reach on (p .number)
+clear-node {S} g {p} hp names chosen reach on unions arities large clear =
+    let k = large .2 in
+    node-noted S names chosen reach on (p .number) (p .node) (hp .is) (λ rp there q hq by.
+    clear-noted g hp rp k hq by (every-true 12 _ (clear there) (k .gathered .sets (q .number)) (k .gathered .few (q .number))))
+
+-- one without figures
+pub idle-node : (S : Setting) {p : Side} → Held S p → (names chosen reach : List ℕ) (on : Bool) → figuresOf 3 (S .n) (p .node) ≡ 0
+    → NodeNoted S names chosen reach on (p .number)
+idle-node S {p} hp names chosen reach on e =
+    node-noted S names chosen reach on (p .number) (p .node) (hp .is) (λ rp there q hq by. idle-noted S names p q rp e)
+
+-- rows that grow
+pub swept-grew : {S : Setting} → Given S → {C : Rows → Type 0} {rows′ names′ : List ℕ} (names chosen reach : List ℕ) (on : Bool) (n : ℕ)
+    → Swept S names chosen reach on n → Grew C (S .rows) names rows′ names′ → Swept (regrown S rows′) names′ chosen reach on n
+swept-grew g names chosen reach on n before a x l p hp e rp there q hq by = noted-grew g hp rp hq a (before x l p hp e rp there q hq by)
+
 pub swept-more : {S : Setting} → Given S → {C : Rows → Type 0} {rows′ names′ : List ℕ} (names chosen reach : List ℕ) (on : Bool) (n : ℕ)
     → Swept S names chosen reach on n → Grew C (S .rows) names rows′ names′ → NodeNoted (regrown S rows′) names′ chosen reach on n
     → Swept (regrown S rows′) names′ chosen reach on (n + 1)
 swept-more {S} g {C} {rows′} {names′} names chosen reach on n before a here =
-    below-more (λ x. NodeNoted (regrown S rows′) names′ chosen reach on x) n
-    (λ x l p hp e rp there q hq by. noted-grew g hp rp hq a (before x l p hp e rp there q hq by)) here
+    below-more (λ x. NodeNoted (regrown S rows′) names′ chosen reach on x) n (swept-grew g names chosen reach on n before a) here

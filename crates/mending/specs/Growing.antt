@@ -1,6 +1,7 @@
 -- How rows grow while a table is mended. The names whose rows got a mark are noted: only pairs that use such a name have to be looked at again.
 use Prim.Native.Nat.{ℕ, _<_}
 use mathlib.Core.Path.{_≡_}
+use mathlib.Core.Logic.{_⊎_}
 use mathlib.Core.Bool.{Bool, true, false, not, _&&_, _||_}
 use mathlib.Core.List.{List}
 use lib.Dec.{eqb, ltb}
@@ -15,7 +16,8 @@ use Rattle.records.specs.declared.Trailer.{Trailer}
 use Rattle.records.specs.Record.{nodeOf}
 use Rattle.records.specs.Kinds.{isReceiver}
 use Rattle.pairs.specs.declared.Side.{Side}
-use Rattle.pairs.specs.Pairs.{Setting, setting, Held, arrayIn, tableIn, breaksPair}
+use Rattle.loads.specs.Loads.{loadIn}
+use Rattle.pairs.specs.Pairs.{Setting, setting, Held, arrayIn, tableIn, livePair, breaksPair}
 use Rattle.senders.specs.Sets.{Family, family, sendsMarked, sendsBy, Gathered}
 use Rattle.filter.specs.Filter.{mayCome, argInside}
 
@@ -60,6 +62,40 @@ Asks u sent v M = (o : ℕ) → o < 256 → marked sent v o ≡ true → M u o �
 
 abbrev pub Takes : ℕ → List ℕ → List ℕ → Rows → Type 0
 Takes n params sent M = (m : ℕ) → m < n → Asks (getD params m 0) sent m M
+
+-- ---- what live senders send
+
+-- a sender that is live beside receiver p sends a name, as argument m, that may hold o
+pub record Source (S : Setting) (p : Side) (m o : ℕ) : Type 0 where
+  pub q : Side
+  pub held : Held S q
+  pub live : livePair (S .rows) (S .loads) (S .bounds) (S .n) p q ≡ true
+  pub holds : marked (S .rows) (getD (q .node .args) m 0) o ≡ true
+
+-- the list has nothing but what it had and what live senders send to p
+pub record Gained (S : Setting) (p : Side) (sent sent′ : List ℕ) : Type 0 where
+  pub size : length sent′ ≡ length sent
+  pub from : (m o : ℕ) → o < 256 → marked sent′ m o ≡ true → (marked sent m o ≡ true) ⊎ Source S p m o
+
+-- nothing but what live senders send to p
+abbrev pub Only : Setting → Side → List ℕ → Type 0
+Only S p sent = (m o : ℕ) → o < 256 → marked sent m o ≡ true → Source S p m o
+
+-- what q sends is in the list, where it is live beside p
+abbrev pub Sends : Setting → Side → List ℕ → Side → Type 0
+Sends S p sent q =
+    livePair (S .rows) (S .loads) (S .bounds) (S .n) p q ≡ true → (m : ℕ) → m < p .node .arity → sentAt (S .rows) (q .node) sent m ≡ true
+
+-- node j weighs no more than node i in balance k
+abbrev pub noHeavier : List ℕ → ℕ → ℕ → ℕ → Bool
+noHeavier loads i j k = not (ltb (loadIn loads i k) (loadIn loads j k))
+
+-- what is live beside p is live beside r: it receives by the same arity, on a channel that holds what p's does, and weighs no more in n balances
+pub record Hears (rows loads : List ℕ) (n : ℕ) (p r : Side) : Type 0 where
+  pub receives : isReceiver (nodeOf (r .node)) ≡ true
+  pub arity : r .node .arity ≡ p .node .arity
+  pub channel : inside rows (p .node .name) rows (r .node .name) ≡ true
+  pub light : every n (noHeavier loads (p .number) (r .number)) ≡ true
 
 -- ---- pairs of an array
 

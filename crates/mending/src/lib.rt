@@ -12,7 +12,6 @@ ghost use Rattle.laws.specs.Search.{every};
 ghost use Rattle.laws.specs.Lists.{put};
 ghost use Rattle.marks.specs.Marks.{HasRow, marked};
 ghost use Rattle.model.specs.Tree.{isAgent};
-ghost use Rattle.model.specs.Memory.{isOut};
 ghost use Rattle.model.specs.Mend.{mended, bitsSet};
 ghost use Rattle.records.specs.Record.{nodeOf, recordOf, arrayOf, RecordsFit};
 ghost use Rattle.records.specs.Kinds.{isReceiver};
@@ -20,10 +19,10 @@ ghost use Rattle.arrays.specs.File.{IsRead};
 ghost use Rattle.arrays.specs.Agents.{Reads};
 ghost use Rattle.layout.specs.Table.{tableOf, IsTable};
 ghost use Rattle.flows.specs.Written.{rewritten};
-ghost use Rattle.pairs.specs.Pairs.{setting, Given, liveBy, Rooms, NameRow};
+ghost use Rattle.pairs.specs.Pairs.{setting, Given, HalfRow, liveBy, Rooms, NameRow};
 ghost use Rattle.senders.specs.Sets.{family, SentRows, Member, Linked};
 ghost use Rattle.filter.specs.Filter.{ArgRows};
-ghost use Rattle.mending.specs.Growing.{Grew, Added, SentIf, sentAt, Takes, RuleThree, Noted, Stale};
+ghost use Rattle.mending.specs.Growing.{Grew, Added, SentIf, sentAt, Takes, Gained, Only, Sends, noHeavier, Hears, RuleThree, Noted, Stale};
 ghost use Rattle.mending.specs.Growing.{setClear, LargeSets, SetNoted, AllNoted, NodeNoted, Swept, Clean, Finished, OwnMarked};
 use layout::Sizes;
 use pairs::Side;
@@ -89,7 +88,7 @@ fn sent_already(sent: &[u64], rows: &[u64], file: &[u8], t: Trailer, q: Side) ->
     true
 }
 
-// What is sent gets the rows of what q sends, where p and q are a live pair. As in `pairs::breaks`, balances are asked last.
+// What is sent gets the rows of what sender q sends, where p and q are a live pair. What needs the fewest looks is asked first: a name may hold nothing yet.
 fn join_pair(
     sent: &mut [u64],
     rows: &[u64],
@@ -101,16 +100,15 @@ fn join_pair(
     p: Side,
     q: Side,
 )
-    requires { ⌜ (length (now sent) ≡ 32) × RecordsFit (now file) t × Reads (now file) t (q .number) (q .node)
-        × (isOut (nodeOf (q .node)) ≡ true → SentRows (now rows) (q .node)) ⌝ }
+    requires { ⌜ (length (now sent) ≡ 32) × SentRows (now rows) (q .node) × RecordsFit (now file) t × Reads (now file) t (q .number) (q .node) ⌝ }
     requires { ⌜ Rooms balances (now loads) (now rooms) (q .number) × (isAgent (nodeOf (p .node)) ≡ true) × NameRow (now rows) p × NameRow (now rows) q ⌝ }
     ensures { λ _. ⌜ SentIf (liveBy (now (rows .entry)) (now (loads .entry)) (now (rooms .entry)) balances p q) (now (rows .entry)) (q .node)
         (now (sent .entry)) (now (sent .exit)) ⌝ }
 {
-    if !pairs::meet(rows, p, q) {
+    if sent_already(sent, rows, file, t, q) {
         return;
     }
-    if sent_already(sent, rows, file, t, q) {
+    if !pairs::meet(rows, p, q) {
         return;
     }
     if pairs::fits_beside(balances, loads, rooms, q.number) {
@@ -118,8 +116,47 @@ fn join_pair(
     }
 }
 
+// What is sent gets the rows of what the senders send that the links of set g pass and that are a live pair with p. Of p's differences rule 3 asks for
+// the rooms alone.
+fn join_members(
+    sent: &mut [u64],
+    rows: &[u64],
+    file: &[u8],
+    t: Trailer,
+    balances: usize,
+    loads: &[u32],
+    bounds: &[u32],
+    links: &[u16],
+    g: usize,
+    p: Side,
+)
+    requires { ⌜ Given (setting (now file) t balances (now rows) (now loads) (now bounds)) × (length (now sent) ≡ 32) × (g < 12) ⌝ }
+    requires { ⌜ Reads (now file) t (p .number) (p .node) × (isReceiver (nodeOf (p .node)) ≡ true) ⌝ }
+    requires { ⌜ ((chosen : List ℕ) × (sets : ℕ → ℕ) × Linked (now file) t chosen sets (now links)) ⌝ }
+    ensures { λ _. ⌜ Gained (setting (now (file .entry)) t balances (now (rows .entry)) (now (loads .entry)) (now (bounds .entry))) p
+        (now (sent .entry)) (now (sent .exit)) ⌝ }
+    ensures { λ _. ⌜ ((chosen : List ℕ) (sets : ℕ → ℕ) → Linked (now (file .entry)) t chosen sets (now (links .entry))
+        → (j : ℕ) → Member (now (file .entry)) t chosen sets g j
+        → Sends (setting (now (file .entry)) t balances (now (rows .entry)) (now (loads .entry)) (now (bounds .entry))) p (now (sent .exit))
+        record { number = j; node = recordOf (now (file .entry)) t j }) ⌝ }
+{
+    let mut gives = [0u32; 24];
+    let mut rooms = [0u32; 24];
+    pairs::differences(&mut gives, &mut rooms, balances, loads, bounds, p);
+    let mut next = wire::number_index(links[senders::last_link(g)]);
+    while 0 < next {
+        let j = next - 1;
+        let q = Side {
+            number: j,
+            node: records::node_at(file, t, j),
+        };
+        join_pair(sent, rows, file, t, balances, loads, &rooms, p, q);
+        next = wire::number_index(links[j]);
+    }
+}
+
 // The pairs of p and the senders that the links of set g pass. What those of live pairs send is joined to what the parameters have, and then added to their
-// rows. Of p's differences rule 3 asks for the rooms alone.
+// rows.
 fn mend_members(
     rows: &mut [u64],
     names: &mut [u64],
@@ -142,21 +179,20 @@ fn mend_members(
         → Noted (setting (now (file .entry)) t balances (now (rows .exit)) (now (loads .entry)) (now (bounds .entry))) (now (names .exit)) p
         record { number = j; node = recordOf (now (file .entry)) t j }) ⌝ }
 {
-    let mut gives = [0u32; 24];
-    let mut rooms = [0u32; 24];
-    pairs::differences(&mut gives, &mut rooms, balances, loads, bounds, p);
     let mut sent = [0u64; 32];
     join_args(&mut sent, rows, file, t, p);
-    let mut next = wire::number_index(links[senders::last_link(g)]);
-    while 0 < next {
-        let j = next - 1;
-        let q = Side {
-            number: j,
-            node: records::node_at(file, t, j),
-        };
-        join_pair(&mut sent, rows, file, t, balances, loads, &rooms, p, q);
-        next = wire::number_index(links[j]);
-    }
+    join_members(
+        &mut sent,
+        rows,
+        file,
+        t,
+        balances,
+        loads,
+        bounds,
+        links,
+        g,
+        p,
+    );
     add_args(rows, names, &sent, p.node);
 }
 
@@ -267,6 +303,206 @@ fn mend_receiver(
     }
 }
 
+// ---- receivers alike
+
+// What is sent gets the rows of what all senders send that were gathered and that are a live pair with p.
+fn join_all(
+    sent: &mut [u64],
+    rows: &[u64],
+    file: &[u8],
+    t: Trailer,
+    balances: usize,
+    loads: &[u32],
+    bounds: &[u32],
+    links: &[u16],
+    p: Side,
+)
+    requires { ⌜ Given (setting (now file) t balances (now rows) (now loads) (now bounds)) × (length (now sent) ≡ 32) ⌝ }
+    requires { ⌜ Reads (now file) t (p .number) (p .node) × (isReceiver (nodeOf (p .node)) ≡ true) ⌝ }
+    requires { ⌜ ((chosen : List ℕ) × (sets : ℕ → ℕ) × Linked (now file) t chosen sets (now links)) ⌝ }
+    ensures { λ _. ⌜ Gained (setting (now (file .entry)) t balances (now (rows .entry)) (now (loads .entry)) (now (bounds .entry))) p
+        (now (sent .entry)) (now (sent .exit)) ⌝ }
+{
+    let mut n: usize = 0;
+    while n < 12 {
+        join_members(sent, rows, file, t, balances, loads, bounds, links, n, p);
+        n += 1;
+    }
+}
+
+// Node j weighs no more than node i.
+fn no_heavier(balances: usize, loads: &[u32], i: usize, j: usize) -> bool
+    requires { ⌜ HalfRow (now loads) balances i × HalfRow (now loads) balances j ⌝ }
+    ensures { λ b. ⌜ b ≡ every balances (noHeavier (now (loads .entry)) i j) ⌝ }
+{
+    let mut light = true;
+    let mut k: usize = 0;
+    while k < balances {
+        light = light & !loads::less(loads::load_at(loads, i, k), loads::load_at(loads, j, k));
+        k += 1;
+    }
+    light
+}
+
+// r receives what p does: what is live beside p is live beside r.
+fn hears(rows: &[u64], balances: usize, loads: &[u32], p: Side, r: Side) -> bool
+    requires { ⌜ HasRow (now rows) (p .node .name) × (isReceiver (nodeOf (r .node)) ≡ true → HasRow (now rows) (r .node .name)) ⌝ }
+    requires { ⌜ HalfRow (now loads) balances (p .number) × HalfRow (now loads) balances (r .number) ⌝ }
+    ensures { λ b. ⌜ (b ≡ true → Hears (now (rows .entry)) (now (loads .entry)) balances p r) ⌝ }
+{
+    if !records::receives(r.node) {
+        return false;
+    }
+    if r.node.arity != p.node.arity {
+        return false;
+    }
+    if !marks::contained(rows, p.node.name, rows, r.node.name) {
+        return false;
+    }
+    no_heavier(balances, loads, p.number, r.number)
+}
+
+// What live senders send to p is added to the rows of r's parameters, where r hears what p does.
+fn send_on(
+    rows: &mut [u64],
+    names: &mut [u64],
+    sent: &[u64],
+    balances: usize,
+    loads: &[u32],
+    p: Side,
+    r: Side,
+)
+    requires { ⌜ (length (now rows) ≡ 1024) × (length (now names) ≡ 4) × (length (now sent) ≡ 32) × (r .node .arity ≤ 8) ⌝ }
+    requires { ⌜ HasRow (now rows) (p .node .name) × (isReceiver (nodeOf (r .node)) ≡ true → HasRow (now rows) (r .node .name)) ⌝ }
+    requires { ⌜ HalfRow (now loads) balances (p .number) × HalfRow (now loads) balances (r .number) ⌝ }
+    ensures { λ _. ⌜ ((f : List ℕ) (t : Trailer) (bounds : List ℕ) → Given (setting f t balances (now (rows .entry)) (now (loads .entry)) bounds)
+        → Reads f t (r .number) (r .node) → Only (setting f t balances (now (rows .entry)) (now (loads .entry)) bounds) p (now (sent .entry))
+        → Grew (RuleThree (setting f t balances (now (rows .entry)) (now (loads .entry)) bounds))
+        (now (rows .entry)) (now (names .entry)) (now (rows .exit)) (now (names .exit))) ⌝ }
+{
+    if !hears(rows, balances, loads, p, r) {
+        return;
+    }
+    add_args(rows, names, sent, r.node);
+}
+
+// What live senders send to p goes to every receiver from p on that hears what p does.
+fn spread(
+    rows: &mut [u64],
+    names: &mut [u64],
+    sent: &[u64],
+    file: &[u8],
+    t: Trailer,
+    balances: usize,
+    loads: &[u32],
+    p: Side,
+)
+    requires { ⌜ ((bounds : List ℕ) × Given (setting (now file) t balances (now rows) (now loads) bounds)) × (length (now names) ≡ 4)
+        × (length (now sent) ≡ 32) ⌝ }
+    requires { ⌜ Reads (now file) t (p .number) (p .node) × (isReceiver (nodeOf (p .node)) ≡ true) ⌝ }
+    ensures { λ _. ⌜ ((bounds : List ℕ) → Given (setting (now (file .entry)) t balances (now (rows .entry)) (now (loads .entry)) bounds)
+        → Only (setting (now (file .entry)) t balances (now (rows .entry)) (now (loads .entry)) bounds) p (now (sent .entry))
+        → Grew (RuleThree (setting (now (file .entry)) t balances (now (rows .entry)) (now (loads .entry)) bounds))
+        (now (rows .entry)) (now (names .entry)) (now (rows .exit)) (now (names .exit))) ⌝ }
+{
+    let mut i = p.number;
+    while i < t.nodes {
+        let r = Side {
+            number: i,
+            node: records::node_at(file, t, i),
+        };
+        send_on(rows, names, sent, balances, loads, p, r);
+        i += 1;
+    }
+}
+
+// What live senders send to p goes to every receiver from p on that hears them too: where many receive alike, one look at each sender will do.
+fn mend_alike(
+    rows: &mut [u64],
+    names: &mut [u64],
+    file: &[u8],
+    t: Trailer,
+    balances: usize,
+    loads: &[u32],
+    bounds: &[u32],
+    links: &[u16],
+    p: Side,
+)
+    requires { ⌜ Given (setting (now file) t balances (now rows) (now loads) (now bounds)) × (length (now names) ≡ 4) ⌝ }
+    requires { ⌜ Reads (now file) t (p .number) (p .node) × (isReceiver (nodeOf (p .node)) ≡ true) ⌝ }
+    requires { ⌜ ((chosen : List ℕ) × (sets : ℕ → ℕ) × Linked (now file) t chosen sets (now links)) ⌝ }
+    ensures { λ _. ⌜ Grew (RuleThree (setting (now (file .entry)) t balances (now (rows .entry)) (now (loads .entry)) (now (bounds .entry))))
+        (now (rows .entry)) (now (names .entry)) (now (rows .exit)) (now (names .exit)) ⌝ }
+{
+    let mut sent = [0u64; 32];
+    join_all(&mut sent, rows, file, t, balances, loads, bounds, links, p);
+    spread(rows, names, &sent, file, t, balances, loads, p);
+}
+
+// ---- nodes, by large sets and by small ones
+
+// Receiver p is on a name that is not marked in `reach` (or, where `on` is false, is marked), or no sender of a large set has to be looked at beside it.
+fn receiver_clear(
+    reach: &[u64],
+    on: bool,
+    rows: &[u64],
+    large: &[u64],
+    lengths: &[u64],
+    p: Side,
+) -> bool
+    requires { ⌜ (length (now reach) ≡ 4) × (length (now large) ≡ 432) × (length (now lengths) ≡ 4) × (length (now rows) ≡ 1024) ⌝ }
+    requires { ⌜ (p .node .name < 256) × SentRows (now rows) (p .node) ⌝ }
+    ensures { λ b. ⌜ (b ≡ true → marked (now (reach .entry)) 0 (p .node .name) ≡ on
+        → every 12 (setClear (now (large .entry)) (now (lengths .entry)) (now (rows .entry)) p) ≡ true) ⌝ }
+{
+    if marks::is_marked(reach, 0, p.node.name) != on {
+        return true;
+    }
+    sets_clear(large, lengths, rows, p)
+}
+
+// Node i is clear, or is so once what its senders send went to all receivers alike.
+fn settled(
+    reach: &[u64],
+    on: bool,
+    rows: &mut [u64],
+    names: &mut [u64],
+    file: &[u8],
+    t: Trailer,
+    balances: usize,
+    loads: &[u32],
+    bounds: &[u32],
+    large: &[u64],
+    lengths: &[u64],
+    links: &[u16],
+    i: usize,
+) -> bool
+    requires { ⌜ Given (setting (now file) t balances (now rows) (now loads) (now bounds)) × (length (now names) ≡ 4) × (length (now reach) ≡ 4)
+        × (i < t .nodes) ⌝ }
+    requires { ⌜ (length (now large) ≡ 432) × (length (now lengths) ≡ 4)
+        × ((chosen : List ℕ) × (sets : ℕ → ℕ) × Linked (now file) t chosen sets (now links)) ⌝ }
+    ensures { λ _. ⌜ Grew (RuleThree (setting (now (file .entry)) t balances (now (rows .entry)) (now (loads .entry)) (now (bounds .entry))))
+        (now (rows .entry)) (now (names .entry)) (now (rows .exit)) (now (names .exit)) ⌝ }
+    ensures { λ b. ⌜ (b ≡ true → (chosen : List ℕ)
+        → LargeSets (now (file .entry)) t balances (now (rows .entry)) (now (loads .entry)) (now (bounds .entry)) (now (names .entry)) chosen
+        (now (large .entry)) (now (lengths .entry))
+        → NodeNoted (setting (now (file .entry)) t balances (now (rows .exit)) (now (loads .entry)) (now (bounds .entry))) (now (names .exit)) chosen
+        (now (reach .entry)) on i) ⌝ }
+{
+    let p = Side {
+        number: i,
+        node: records::node_at(file, t, i),
+    };
+    if pairs::figures(3, balances, p.node) == 0 {
+        return true;
+    }
+    if receiver_clear(reach, on, rows, large, lengths, p) {
+        return true;
+    }
+    mend_alike(rows, names, file, t, balances, loads, bounds, links, p);
+    receiver_clear(reach, on, rows, large, lengths, p)
+}
+
 // The pairs of node i, where it receives on a name that is marked in `reach` (or, where `on` is false, is not), and all senders that were gathered: large
 // sets are asked before small ones.
 fn mend_node(
@@ -307,10 +543,7 @@ fn mend_node(
     if pairs::figures(3, balances, p.node) == 0 {
         return;
     }
-    if marks::is_marked(reach, 0, p.node.name) != on {
-        return;
-    }
-    if sets_clear(large, lengths, rows, p) {
+    if receiver_clear(reach, on, rows, large, lengths, p) {
         return;
     }
     mend_receiver(
@@ -329,22 +562,32 @@ fn mend_node(
     );
 }
 
-// The chosen senders in sets by arity, of which only what is sent and how is kept.
-fn gather_large(
-    large: &mut [u64],
-    lengths: &mut [u64],
+// The pairs of a receiver on a name that is marked in `reach` (or, where `on` is false, is not) and a sender that uses a name that is marked in `chosen`,
+// by sets by arity, up to the first node that these do not settle. Answers that node.
+fn sweep_large(
     chosen: &[u64],
+    reach: &[u64],
+    on: bool,
+    rows: &mut [u64],
+    names: &mut [u64],
     file: &[u8],
     t: Trailer,
     balances: usize,
-    rows: &[u64],
     loads: &[u32],
-)
-    requires { ⌜ ((bounds : List ℕ) × Given (setting (now file) t balances (now rows) (now loads) bounds)) ⌝ }
-    requires { ⌜ (length (now large) ≡ 432) × (length (now lengths) ≡ 4) × (length (now chosen) ≡ 4) ⌝ }
-    ensures { λ _. ⌜ (length (now (large .exit)) ≡ 432) × (length (now (lengths .exit)) ≡ 4) × ((bounds : List ℕ) (names : List ℕ)
-        → LargeSets (now (file .entry)) t balances (now (rows .entry)) (now (loads .entry)) bounds names (now (chosen .entry))
-        (now (large .exit)) (now (lengths .exit))) ⌝ }
+    bounds: &[u32],
+    large: &mut [u64],
+    lengths: &mut [u64],
+) -> usize
+    requires { ⌜ Given (setting (now file) t balances (now rows) (now loads) (now bounds)) × (length (now names) ≡ 4) × (length (now reach) ≡ 4)
+        × (length (now chosen) ≡ 4) ⌝ }
+    requires { ⌜ (length (now large) ≡ 432) × (length (now lengths) ≡ 4) ⌝ }
+    ensures { λ n. ⌜ (n ≤ t .nodes) × Grew (RuleThree (setting (now (file .entry)) t balances (now (rows .entry)) (now (loads .entry)) (now (bounds .entry))))
+        (now (rows .entry)) (now (names .entry)) (now (rows .exit)) (now (names .exit)) ⌝ }
+    ensures { λ n. ⌜ Swept (setting (now (file .entry)) t balances (now (rows .exit)) (now (loads .entry)) (now (bounds .entry))) (now (names .exit))
+        (now (chosen .entry)) (now (reach .entry)) on n ⌝ }
+    ensures { λ _. ⌜ (length (now (large .exit)) ≡ 432) × (length (now (lengths .exit)) ≡ 4)
+        × LargeSets (now (file .entry)) t balances (now (rows .exit)) (now (loads .entry)) (now (bounds .entry)) (now (names .exit)) (now (chosen .entry))
+        (now (large .exit)) (now (lengths .exit)) ⌝ }
 {
     let mut needs = [0u32; 288];
     let mut links = [0u16; 1036];
@@ -362,10 +605,100 @@ fn gather_large(
         rows,
         loads,
     );
+    let mut i: usize = 0;
+    while i < t.nodes {
+        if !settled(
+            reach,
+            on,
+            rows,
+            names,
+            file,
+            t,
+            balances,
+            loads,
+            bounds,
+            large,
+            lengths,
+            &links,
+            i,
+        ) {
+            return i;
+        }
+        i += 1;
+    }
+    i
+}
+
+// The same from node `from` on, by small sets and one by one, where large sets are not clear. Rule 3 asks for no needs; the sets have them for rule 4.
+fn sweep_small(
+    from: usize,
+    chosen: &[u64],
+    reach: &[u64],
+    on: bool,
+    rows: &mut [u64],
+    names: &mut [u64],
+    file: &[u8],
+    t: Trailer,
+    balances: usize,
+    loads: &[u32],
+    bounds: &[u32],
+    large: &[u64],
+    lengths: &[u64],
+)
+    requires { ⌜ Given (setting (now file) t balances (now rows) (now loads) (now bounds)) × (length (now names) ≡ 4) × (length (now reach) ≡ 4)
+        × (length (now chosen) ≡ 4) ⌝ }
+    requires { ⌜ (from ≤ t .nodes) × (length (now large) ≡ 432) × (length (now lengths) ≡ 4) ⌝ }
+    requires { ⌜ LargeSets (now file) t balances (now rows) (now loads) (now bounds) (now names) (now chosen) (now large) (now lengths) ⌝ }
+    requires { ⌜ Swept (setting (now file) t balances (now rows) (now loads) (now bounds)) (now names) (now chosen) (now reach) on from ⌝ }
+    ensures { λ _. ⌜ Grew (RuleThree (setting (now (file .entry)) t balances (now (rows .entry)) (now (loads .entry)) (now (bounds .entry))))
+        (now (rows .entry)) (now (names .entry)) (now (rows .exit)) (now (names .exit)) ⌝ }
+    ensures { λ _. ⌜ Swept (setting (now (file .entry)) t balances (now (rows .exit)) (now (loads .entry)) (now (bounds .entry))) (now (names .exit))
+        (now (chosen .entry)) (now (reach .entry)) on (t .nodes) ⌝ }
+{
+    let mut needs = [0u32; 288];
+    let mut unions = [0u64; 432];
+    let mut arities = [0u64; 4];
+    let mut links = [0u16; 1036];
+    senders::gather(
+        3,
+        true,
+        chosen,
+        &mut needs,
+        &mut unions,
+        &mut arities,
+        &mut links,
+        file,
+        t,
+        balances,
+        rows,
+        loads,
+    );
+    let mut i = from;
+    while i < t.nodes {
+        mend_node(
+            reach,
+            on,
+            rows,
+            names,
+            file,
+            t,
+            balances,
+            loads,
+            bounds,
+            large,
+            lengths,
+            &needs,
+            &unions,
+            &arities,
+            &links,
+            i,
+        );
+        i += 1;
+    }
 }
 
 // The pairs of a receiver on a name that is marked in `reach` (or, where `on` is false, is not) and a sender that uses a name that is marked in `chosen`.
-// Rule 3 asks for no needs; the sets have them for rule 4.
+// Small sets are gathered only where large ones leave a node.
 fn sweep(
     chosen: &[u64],
     reach: &[u64],
@@ -387,37 +720,24 @@ fn sweep(
 {
     let mut large = [0u64; 432];
     let mut lengths = [0u64; 4];
-    gather_large(
+    let from = sweep_large(
+        chosen,
+        reach,
+        on,
+        rows,
+        names,
+        file,
+        t,
+        balances,
+        loads,
+        bounds,
         &mut large,
         &mut lengths,
-        chosen,
-        file,
-        t,
-        balances,
-        rows,
-        loads,
     );
-    let mut needs = [0u32; 288];
-    let mut unions = [0u64; 432];
-    let mut arities = [0u64; 4];
-    let mut links = [0u16; 1036];
-    senders::gather(
-        3,
-        true,
-        chosen,
-        &mut needs,
-        &mut unions,
-        &mut arities,
-        &mut links,
-        file,
-        t,
-        balances,
-        rows,
-        loads,
-    );
-    let mut i: usize = 0;
-    while i < t.nodes {
-        mend_node(
+    if from < t.nodes {
+        sweep_small(
+            from,
+            chosen,
             reach,
             on,
             rows,
@@ -429,13 +749,7 @@ fn sweep(
             bounds,
             &large,
             &lengths,
-            &needs,
-            &unions,
-            &arities,
-            &links,
-            i,
         );
-        i += 1;
     }
 }
 

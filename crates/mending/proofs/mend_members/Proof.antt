@@ -1,214 +1,82 @@
--- The senders of the set from the next one on were looked at: what live ones send is among what is sent, and all of that is in every choice of rows.
+-- What live senders of the set send is in every choice of rows, and once it is in the parameters' rows, none of their pairs breaks the rule without a
+-- noted name.
 use denote.Ref.{now}
-use Prim.Native.Nat.{ℕ, _+_, _-_, _≤_, _<_}
-use mathlib.Core.List.{List}
-use lib.ListN.{length, getD}
-use mathlib.Core.Path.{_≡_, refl, _∙_, subst}
-use mathlib.Core.Bool.{Bool}
+use mathlib.Core.Path.{refl, _∙_}
 use borrow.Author.Needs.{needs}
 use native.Mathlib.Omega.{arith}
-use Rattle.arrays.proofs.Agents.{left-below, small-arity}
-use Rattle.pairs.specs.declared.Side.{Side}
-use Rattle.pairs.specs.Pairs.{Setting, Given, Held, setting, DifferencesOf}
-use Rattle.pairs.proofs.Laws.{alive, agent-p, name-row, arg-row}
-use Rattle.pairs.proofs.Search.{sideAt}
-use Rattle.pairs.proofs.ByDifference.{rooms-there, live-by}
-use Rattle.senders.proofs.Laws.{askable}
-use Rattle.mending.specs.Growing.{SentIf, RuleThree}
+use Rattle.arrays.proofs.Agents.{small-arity}
+use Rattle.pairs.specs.Pairs.{Setting, setting}
+use Rattle.pairs.proofs.Laws.{agent-p, arg-row}
+use Rattle.mending.specs.Growing.{RuleThree}
 use Rattle.mending.proofs.Growth.{grew-by}
-use Rattle.mending.proofs.Noting.{Asked, Sends, asked-begun, asked-more, sent-here, sent-more, sent-noted}
-use Rattle.mending.proofs.Along.{held-at, sends-at, AtLink, links-begun, link-node, link-down, links-more, links-done}
+use Rattle.mending.proofs.Noting.{asked-begun, gained-asked, sent-noted}
+use Rattle.mending.proofs.Along.{held-at}
 use Rattle.mending.proofs.mend_members.Statement.{statement}
 use Rattle.mending.proofs.mend_members.Tie as tie
 
--- what is to be seen of the sender at node j
-abbrev Seen : Setting → Side → List ℕ → ℕ → Type 0
-Seen S p sent j = Sends S p sent (sideAt S j)
-
-abbrev Inv-loop : tie.InvT-loop
-Inv-loop rows names file t balances loads bounds links g p rooms sent₀ next₀ sent next =
-    (length sent ≡ 32)
-    × Asked (setting file t balances rows loads bounds) p sent
-    × AtLink (setting file t balances rows loads bounds) g links (Seen (setting file t balances rows loads bounds) p sent) next
-
-abbrev μ-loop : tie.MeasureT-loop
-μ-loop rows names file t balances loads bounds links g p rooms sent₀ next₀ sent next = next
-
-differences-requires : tie.Need-differences-requires Inv-loop μ-loop
-differences-requires c κs =
-    let pre = c .before .before .before .before .before .before .before .before .pre in
-    let g = pre .0 .0 in
-    let hp = pre .1 .0 .0 in
-    let half = g .weighed .half in
-    ((refl, refl, g .lists .manyBounds, g .lists .few), (half _ (hp .below), half _ (left-below (g .read) hp (agent-p g hp (pre .1 .0 .1) hp))))
-
--- the start, seen from the loop by way of what the parameters have, and of the differences
-abbrev filled : tie.At-loop Inv-loop μ-loop → tie.After-join-args Inv-loop μ-loop
-filled c = c .before .before .before .before .before
-
-abbrev prepared : tie.After-join-args Inv-loop μ-loop → tie.After-differences Inv-loop μ-loop
-prepared c = c .before .before .before .before .before
-
-abbrev begun : tie.After-differences Inv-loop μ-loop → tie.Start Inv-loop μ-loop
-begun c = let r = c .before in r .before .before .before .before .before .before .before .before
-
-abbrev under : tie.Start Inv-loop μ-loop → Setting
+abbrev under : tie.Start → Setting
 under s =
     let x = s .args in
     setting (now (x .file)) (x .t) (x .balances) (now (x .rows)) (now (x .loads)) (now (x .bounds))
 
-module _ (c : tie.At-loop Inv-loop μ-loop) where
-  abbrev s : tie.Start Inv-loop μ-loop
-  s = begun (prepared (filled c))
+-- stations
+abbrev at-join-args-arg : tie.After-join-members-arg → tie.After-join-args-arg
+at-join-args-arg c = c .before .before .before .before
 
-  abbrev S : Setting
-  S = under s
+abbrev at-shared-slice-known2 : tie.After-join-args-arg → tie.After-shared-slice-known2
+at-shared-slice-known2 c = c .before .before .before .before
 
-  given : Given S
-  given = s .pre .0 .0
+abbrev at-start : tie.After-shared-slice-known2 → tie.Start
+at-start c = c .before .before .before .before
 
-  hp : Held S (s .args .p)
-  hp = s .pre .1 .0 .0
+abbrev at-join-members-arg : tie.After-add-args-arg2 → tie.After-join-members-arg
+at-join-members-arg c = c .before .before .before .before
 
-  differ : DifferencesOf S (s .args .p) (prepared (filled c) .differences .last .0) (prepared (filled c) .differences .last .1 .0)
-  differ = let d = prepared (filled c) .differences in record { manyGives = d .kept .0; manyRooms = d .kept .1 .0; are = d .ensures }
+abbrev at-add-args-arg2 : tie.After-slice-known3 → tie.After-add-args-arg2
+at-add-args-arg2 c = c .before .before .before .before
 
--- a sender of the set
-module _ (c : tie.In-loop Inv-loop μ-loop) where
-  abbrev a : tie.At-loop Inv-loop μ-loop
-  a = c .before
-
-  abbrev j : ℕ
-  j = a .loop .next - 1
-
-  up : a .loop .next ≡ j + 1
-  up = omega (arith, c .loop-test .taken)
-
-  at : AtLink (S a) (s a .args .g) (now (s a .args .links)) (Seen (S a) (s a .args .p) (a .loop .sent)) (j + 1)
-  at = subst (λ (x : ℕ). AtLink (S a) (s a .args .g) (now (s a .args .links)) (Seen (S a) (s a .args .p) (a .loop .sent)) x) up (a .loop .inv .2)
-
-  below : j < s a .args .t .nodes
-  below = link-node (S a) (s a .args .g) (now (s a .args .links)) _ j at (s a .pre .1 .1)
-
-  down : getD (now (s a .args .links)) j 0 ≤ j
-  down = link-down (S a) (s a .args .g) (now (s a .args .links)) _ j at (s a .pre .1 .1)
-
--- and its record
-module _ (c : tie.After-node-at Inv-loop μ-loop) where
-  abbrev i : tie.In-loop Inv-loop μ-loop
-  i = c .before
-
-  abbrev q : Side
-  q = record { number = j i; node = c .node-at .result }
-
-  hq : Held (S (a i)) q
-  hq = record { below = below i; is = c .node-at .ensures }
-
-join-args-requires : tie.Need-join-args-requires Inv-loop μ-loop
+join-args-requires : tie.Need-join-args-requires
 join-args-requires c κs =
-    let p = begun (c .before .before .before .before) .pre in
+    let p = c .before .before .before .before .before .before .before .before .pre in
     let g = p .0 .0 in
     let hp = p .1 .0 .0 in
     (refl, record { few = small-arity (g .read) hp; args = arg-row g hp (agent-p g hp (p .1 .0 .1) hp) }, omega (arith, g .read .fills), hp)
 
-loop-holds : tie.Need-loop-holds Inv-loop μ-loop
-loop-holds c =
-    let j = c .before .before .before .before in
-    let x = begun (prepared j) .args in (
-      j .join-args .ensures .size,
-      asked-begun (under (begun (prepared j))) (x .p) (j .join-args .ensures),
-      rw (c .number-index .ensures .0, c .before .before .last-link .ensures) (links-begun _ (x .g) (now (x .links)) _),
-    )
+join-members-requires : tie.Need-join-members-requires
+join-members-requires c κs =
+    let p = at-start (at-shared-slice-known2 (at-join-args-arg c)) .pre in
+    ((p .0 .0, c .before .before .before .join-args .ensures .size, p .0 .2), p .1)
 
-shared-slice-read-number-index : tie.Need-shared-slice-read-number-index Inv-loop μ-loop
-shared-slice-read-number-index c =
-    let p = begun (prepared (c .before .before .before)) .pre in
-    rw (c .before .last-link .ensures) (omega (arith, p .0 .2, p .1 .1 .2 .size))
-
-node-at-requires : tie.Need-node-at-requires Inv-loop μ-loop
-node-at-requires c κs = (omega (arith, given (a c) .read .fills), below c)
-
-join-pair-requires : tie.Need-join-pair-requires Inv-loop μ-loop
-join-pair-requires c κs =
-    let n = c .before .before .before in
-    let k = a (i n) in
-    let g = given k in
-    let r = s k .pre .1 .0 .1 in (
-      (k .loop .inv .0, omega (arith, g .read .fills), hq n, λ sends. askable g (hq n) sends .sent),
-      (rooms-there g (hp k) r (differ k) _ (below (i n)), agent-p g (hp k) r (hq n), name-row g (hp k), name-row g (hq n)),
-    )
-
--- what was done with the pair
-module _ (c : tie.After-join-pair Inv-loop μ-loop) where
-  abbrev n : tie.After-node-at Inv-loop μ-loop
-  n = c .before .before .before .before
-
-  joined : SentIf (alive (S (a (i n))) (s (a (i n)) .args .p) (q n)) (S (a (i n)) .rows) (q n .node) (a (i n) .loop .sent) (c .join-pair .last .0)
-  joined =
-      let k = a (i n) in
-      subst (λ (b : Bool). SentIf b (S k .rows) (q n .node) (k .loop .sent) (c .join-pair .last .0))
-      (live-by (given k) (hp k) (s k .pre .1 .0 .1) (differ k) (hq n)) (c .join-pair .ensures)
-
-mul-number-index-2 : tie.Need-mul-number-index-2 Inv-loop μ-loop
-mul-number-index-2 c =
-    let k = i (n (c .before)) in
-    record { fits = omega (arith, below k, given (a k) .read .formed .fewNodes) }
-
-shared-slice-read-number-index-2 : tie.Need-shared-slice-read-number-index-2 Inv-loop μ-loop
-shared-slice-read-number-index-2 c =
-    let k = i (n (c .before .before)) in
-    omega (arith, below k, given (a k) .read .formed .fewNodes, s (a k) .pre .1 .1 .2 .size)
-
-loop-less : tie.Need-loop-less Inv-loop μ-loop
-loop-less c = let k = i (n (c .before .before .before)) in omega (arith, c .number-index2 .ensures .0, down k, up k)
-
-loop-again : tie.Need-loop-again Inv-loop μ-loop
-loop-again c =
-    let m = c .before .before .before in
-    let r = n m in
-    let k = a (i r) in
-    let x = joined m in
-    let is = s k .pre .1 .0 .1 in
-    let sent′ = m .join-pair .last .0 in (
-      x .size ∙ k .loop .inv .0,
-      asked-more (given k) (hp k) is (hq r) x (k .loop .inv .1),
-      rw (c .number-index2 .ensures .0)
-          (links-more (S k) _ _ _ (Seen (S k) (s k .args .p) sent′) (λ y. sent-more (S k) (s k .args .p) (sideAt (S k) y) x) (j (i r)) (at (i r))
-          (sends-at (S k) (s k .args .p) sent′ (j (i r)) (r .node-at .result) (r .node-at .ensures) (sent-here (given k) (hp k) is (hq r) x))),
-    )
-
-add-args-requires : tie.Need-add-args-requires Inv-loop μ-loop
+add-args-requires : tie.Need-add-args-requires
 add-args-requires c κs =
-    let k = c .before .before .before .before in
-    let g = given k in
-    (g .lists .manyRows, s k .pre .0 .1, k .loop .inv .0, small-arity (g .read) (hp k))
+    let p = at-start (at-shared-slice-known2 (at-join-args-arg (at-join-members-arg (c .before)))) .pre in
+    let g = p .0 .0 in
+    let gained = c .before .before .before .before in
+    let has = gained .before .before .before .before in
+    (g .lists .manyRows, p .0 .1, gained .join-members .ensures .0 .size ∙ has .join-args .ensures .size, small-arity (g .read) (p .1 .0 .0))
 
-same-length : tie.Need-same-length Inv-loop μ-loop
+same-length : tie.Need-same-length
 same-length c = c .before .before .before .before .add-args .ensures .0 .size
 
-same-length-2 : tie.Need-same-length-2 Inv-loop μ-loop
+same-length-2 : tie.Need-same-length-2
 same-length-2 c = c .before .before .before .before .add-args .ensures .0 .marks
 
-returns : tie.Need-returns Inv-loop μ-loop
+returns : tie.Need-returns
 returns c =
-    let d = c .before .before .before .before in
-    let k = d .before .before .before .before .before in
-    let l = k .loop in
-    let x = s k .args in
-    let grew = d .add-args .ensures in
-    let e : l .next ≡ 0 = omega (arith, d .before .before .before .before .loop-test .left) in
-    let none = subst (λ (n : ℕ). AtLink (S k) (x .g) (now (x .links)) (Seen (S k) (x .p) (l .sent)) n) e (l .inv .2) in (
-      grew-by (grew .0) (RuleThree (S k)) (l .inv .1),
-      λ chosen sets linked j m.
-          sent-noted (given k) (hp k) (s k .pre .1 .0 .1) (held-at (S k) j (m .0)) (l .sent) (grew .0)
-          (links-done (S k) (x .g) (now (x .links)) _ none chosen sets linked j m) (grew .1),
+    let s = at-start (at-shared-slice-known2 (at-join-args-arg (at-join-members-arg (at-add-args-arg2 (c .before .before))))) in
+    let g = s .pre .0 .0 in
+    let hp = s .pre .1 .0 .0 in
+    let rp = s .pre .1 .0 .1 in
+    let grew = c .before .before .before .before .add-args .ensures in
+    let has = at-join-members-arg (at-add-args-arg2 (c .before .before)) .before .before .before .join-args .ensures in
+    let gained = at-add-args-arg2 (c .before .before) .before .before .before .join-members .ensures in (
+      grew-by (grew .0) (RuleThree (under s)) (gained-asked g hp rp (gained .0) (asked-begun (under s) (s .args .p) has)),
+      λ chosen sets linked j m. sent-noted g hp rp (held-at (under s) j (m .0)) _ (grew .0) (gained .1 chosen sets linked j m) (grew .1),
     )
 
 pub mend-members-spec : {M : Type 1} → statement M
 mend-members-spec =
     tie.close
     (tie.spec
-    Inv-loop μ-loop (λ c. search needs) (λ c. search needs) differences-requires (λ c. search needs) join-args-requires (λ c κs. search needs)
-    (λ c. search needs) shared-slice-read-number-index (λ c κs. search needs) loop-holds (λ c. search needs) node-at-requires (λ c. search needs)
-    (λ c. search needs) join-pair-requires mul-number-index-2 shared-slice-read-number-index-2 (λ c κs. search needs) loop-less loop-again
-    (λ c. search needs) add-args-requires same-length same-length-2 returns)
+    (λ c. search needs) join-args-requires (λ c. search needs) join-members-requires (λ c. search needs) add-args-requires same-length
+    same-length-2 returns)

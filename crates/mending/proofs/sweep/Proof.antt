@@ -1,113 +1,77 @@
--- The nodes passed so far were looked at beside the senders that were gathered at the start.
-use Prim.Native.Nat.{_≤_, _-_}
-use denote.Ref.{now}
+-- What large sets settle, and the rest by small ones.
 use mathlib.Core.Path.{refl, _∙_}
 use borrow.Author.Needs.{needs}
 use native.Mathlib.Omega.{arith}
-use Rattle.pairs.specs.Pairs.{setting}
-use Rattle.filter.proofs.Laws.{empty-room}
-use Rattle.mending.specs.Growing.{Grew, RuleThree, Swept}
-use Rattle.mending.proofs.Growth.{grew-same, grew-trans}
+use Rattle.mending.proofs.Growth.{grew-trans}
 use Rattle.mending.proofs.Noting.{given-again}
-use Rattle.mending.proofs.Skipping.{stale-now, stale-grew, swept-more}
 use Rattle.mending.proofs.sweep.Statement.{statement}
 use Rattle.mending.proofs.sweep.Tie as tie
 
-abbrev Inv-loop : tie.InvT-loop
-Inv-loop chosen reach on rows₀ names₀ file t balances loads bounds large lengths needs unions arities links i₀ rows names i =
-    (i ≤ t .nodes)
-    × Grew (RuleThree (setting file t balances rows₀ loads bounds)) rows₀ names₀ rows names
-    × Swept (setting file t balances rows loads bounds) names chosen reach on i
-
-abbrev μ-loop : tie.MeasureT-loop
-μ-loop chosen reach on rows₀ names₀ file t balances loads bounds large lengths needs unions arities links i₀ rows names i = t .nodes - i
-
 -- stations
-abbrev at-slice-known2 : tie.After-large Inv-loop μ-loop → tie.After-slice-known2 Inv-loop μ-loop
+abbrev at-slice-known2 : tie.After-sweep-large-arg → tie.After-slice-known2
 at-slice-known2 c = c .before .before .before .before
 
-abbrev at-start : tie.After-slice-known2 Inv-loop μ-loop → tie.Start Inv-loop μ-loop
+abbrev at-start : tie.After-slice-known2 → tie.Start
 at-start c = c .before .before .before .before
 
-abbrev at-large2 : tie.After-arities Inv-loop μ-loop → tie.After-large2 Inv-loop μ-loop
-at-large2 c = c .before .before .before .before
+abbrev at-if1 : tie.After-lengths3 → tie.Then1
+at-if1 c = c .before .before .before .before
 
-abbrev at-large : tie.After-large2 Inv-loop μ-loop → tie.After-large Inv-loop μ-loop
-at-large c = c .before .before .before .before
+abbrev at-slice-known4 : tie.Then1 → tie.After-slice-known4
+at-slice-known4 c = c .before .before .before .before
 
-abbrev at-mend-node-arg2 : tie.After-unions3 Inv-loop μ-loop → tie.After-mend-node-arg2 Inv-loop μ-loop
-at-mend-node-arg2 c = c .before .before .before .before
+abbrev at-sweep-large : tie.After-slice-known4 → tie.After-sweep-large
+at-sweep-large c = c .before .before .before .before
 
-abbrev at-loop : tie.After-mend-node-arg2 Inv-loop μ-loop → tie.At-loop Inv-loop μ-loop
-at-loop c = c .before .before .before .before
+abbrev at-sweep-large-arg : tie.After-sweep-large → tie.After-sweep-large-arg
+at-sweep-large-arg c = c .before .before .before .before
 
-abbrev at-needs2 : tie.At-loop Inv-loop μ-loop → tie.After-needs2 Inv-loop μ-loop
-at-needs2 c = c .before .before .before .before
+abbrev at-lengths3 : tie.After-names2 → tie.After-lengths3
+at-lengths3 c = c .before .before .before .before
 
-abbrev at-arities : tie.After-needs2 Inv-loop μ-loop → tie.After-arities Inv-loop μ-loop
-at-arities c = c .before .before .before .before
+sweep-large-requires : tie.Need-sweep-large-requires
+sweep-large-requires c κs = (at-start (at-slice-known2 (c .before .before .before)) .pre, (refl, refl))
 
-abbrev at-unions3 : tie.After-rows Inv-loop μ-loop → tie.After-unions3 Inv-loop μ-loop
-at-unions3 c = c .before .before .before .before
-
-gather-large-requires : tie.Need-gather-large-requires Inv-loop μ-loop
-gather-large-requires c κs =
-    let s = at-start (at-slice-known2 (c .before .before)) in
-    ((now (s .args .bounds), s .pre .0), (refl, refl, s .pre .3))
-
-gather-requires : tie.Need-gather-requires Inv-loop μ-loop
-gather-requires c κs =
-    let s = at-start (at-slice-known2 (at-large (at-large2 (c .before .before)))) in
-    ((now (s .args .bounds), s .pre .0), (empty-room, search needs, s .pre .3))
-
-loop-holds : tie.Need-loop-holds Inv-loop μ-loop
-loop-holds c = (omega arith, grew-same _ _ _, λ i h. absurd (omega (arith, h)))
-
-mend-node-requires : tie.Need-mend-node-requires Inv-loop μ-loop
-mend-node-requires c κs =
-    let s = at-start (at-slice-known2 (at-large (at-large2 (at-arities (at-needs2 (at-loop (at-mend-node-arg2 (c .before .before)))))))) in
-    let p = s .pre in
-    let a = at-loop (at-mend-node-arg2 (c .before .before)) .loop .inv .1 in
-    let k = at-needs2 (at-loop (at-mend-node-arg2 (c .before .before))) .before .gather in
-    let b = at-large2 (at-arities (at-needs2 (at-loop (at-mend-node-arg2 (c .before .before))))) .before .gather-large .ensures in (
-      (given-again (p .0) (a .size), a .marks ∙ p .1, p .2, omega (arith, c .before .before .before .before .before .before .before .before .if1 .taken)),
-      ((now (s .args .chosen), stale-grew (stale-now (k .ensures (now (s .args .bounds)))) a), b .0, b .1),
+sweep-small-requires : tie.Need-sweep-small-requires
+sweep-small-requires c κs =
+    let p = at-start (at-slice-known2 (at-sweep-large-arg (at-sweep-large (at-slice-known4 (at-if1 c))))) .pre in
+    let w = at-sweep-large (at-slice-known4 (at-if1 c)) .sweep-large .ensures in
+    let a = w .0 .1 in (
+      (given-again (p .0) (a .size), a .marks ∙ p .1, p .2, p .3),
+      ((w .0 .0, w .1 .1 .0, w .1 .1 .1), (w .1 .1 .2, w .1 .0)),
     )
 
-loop-again : tie.Need-loop-again Inv-loop μ-loop
-loop-again c =
-    let s = at-start (at-slice-known2 (at-large (at-large2 (at-arities (at-needs2 (at-loop (at-mend-node-arg2 (at-unions3 (c .before .before .before))))))))) in
-    let p = s .pre in
-    let x = s .args in
-    let l = at-loop (at-mend-node-arg2 (at-unions3 (c .before .before .before))) .loop in
-    let a = l .inv .1 in
-    let h = at-needs2 (at-loop (at-mend-node-arg2 (at-unions3 (c .before .before .before)))) in
-    let k = h .before .gather in
-    let b = at-large2 (at-arities h) .before .gather-large .ensures .2 (now (x .bounds)) (now (x .names)) in
-    let m = c .before .before .before .before .mend-node .ensures in (
-      omega (arith, at-mend-node-arg2 (at-unions3 (c .before .before .before)) .before .before .if1 .taken),
-      grew-trans a (m .0),
-      swept-more (given-again (p .0) (a .size)) (l .names) (now (x .chosen)) (now (x .reach)) (x .on) (l .i) (l .inv .2) (m .0)
-          (m .1 (now (x .chosen)) (stale-grew (stale-now (k .ensures (now (x .bounds)))) a) (b .0, b .1, stale-grew (b .2) a)),
-    )
+same-length : tie.Need-same-length
+same-length c =
+    let w = at-sweep-large (at-slice-known4 (at-if1 (at-lengths3 (c .before)))) .sweep-large .ensures in
+    c .before .before .before .before .sweep-small .ensures .0 .size ∙ w .0 .1 .size
 
-same-length : tie.Need-same-length Inv-loop μ-loop
-same-length c = c .before .before .loop .inv .1 .size
+same-length-2 : tie.Need-same-length-2
+same-length-2 c =
+    let w = at-sweep-large (at-slice-known4 (at-if1 (at-lengths3 (c .before)))) .sweep-large .ensures in
+    c .before .before .before .before .sweep-small .ensures .0 .marks ∙ w .0 .1 .marks
 
-same-length-2 : tie.Need-same-length-2 Inv-loop μ-loop
-same-length-2 c = c .before .before .loop .inv .1 .marks
-
-returns : tie.Need-returns Inv-loop μ-loop
+returns : tie.Need-returns
 returns c =
-    let l = c .before .before .loop in
+    let w = at-sweep-large (at-slice-known4 (at-if1 (at-lengths3 (c .before)))) .sweep-large .ensures in
+    let m = c .before .before .before .before .sweep-small .ensures in
+    (grew-trans (w .0 .1) (m .0), m .1)
+
+same-length-3 : tie.Need-same-length-3
+same-length-3 c = c .before .before .before .before .before .before .before .before .sweep-large .ensures .0 .1 .size
+
+same-length-4 : tie.Need-same-length-4
+same-length-4 c = c .before .before .before .before .before .before .before .before .sweep-large .ensures .0 .1 .marks
+
+returns-2 : tie.Need-returns-2
+returns-2 c =
+    let w = c .before .before .before .before .before .before .before .before .sweep-large .ensures in
     let left = c .if1 .left in
-    (l .inv .1, λ i h. l .inv .2 i (omega (arith, h, left)))
+    (w .0 .1, λ i h. w .1 .0 i (omega (arith, h, left)))
 
 pub sweep-spec : {M : Type 1} → statement M
 sweep-spec =
     tie.close
     (tie.spec
-    Inv-loop μ-loop (λ c. search needs) (λ c. search needs) gather-large-requires (λ c. search needs) (λ c. search needs) (λ c. search needs)
-    (λ c. search needs) gather-requires loop-holds (λ c. search needs) (λ c. search needs) (λ c. search needs) (λ c. search needs)
-    (λ c. search needs) (λ c. search needs) mend-node-requires (λ c. search needs) (λ c. search needs) loop-again same-length same-length-2
-    returns)
+    (λ c. search needs) (λ c. search needs) sweep-large-requires (λ c. search needs) (λ c. search needs) sweep-small-requires same-length
+    same-length-2 returns same-length-3 same-length-4 returns-2)
