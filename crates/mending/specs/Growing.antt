@@ -56,6 +56,10 @@ pub record SentIf (on : Bool) (rows : List ℕ) (r : Record) (sent sent′ : Lis
 abbrev pub sentAt : List ℕ → Record → List ℕ → ℕ → Bool
 sentAt rows r sent m = inside rows (getD (r .args) m 0) sent m
 
+-- parameter m's row has all of what is sent as its argument
+abbrev pub hasAt : List ℕ → Record → List ℕ → ℕ → Bool
+hasAt rows r sent m = inside sent m rows (getD (r .args) m 0)
+
 -- row u contains row v of the list, and the rows of n parameters what is sent to each
 abbrev pub Asks : ℕ → List ℕ → ℕ → Rows → Type 0
 Asks u sent v M = (o : ℕ) → o < 256 → marked sent v o ≡ true → M u o ≡ true

@@ -22,7 +22,7 @@ ghost use Rattle.flows.specs.Written.{rewritten};
 ghost use Rattle.pairs.specs.Pairs.{setting, Given, HalfRow, liveBy, Rooms, NameRow};
 ghost use Rattle.senders.specs.Sets.{family, SentRows, Member, Linked};
 ghost use Rattle.filter.specs.Filter.{ArgRows};
-ghost use Rattle.mending.specs.Growing.{Grew, Added, SentIf, sentAt, Takes, Gained, Only, Sends, noHeavier, Hears, RuleThree, Noted, Stale};
+ghost use Rattle.mending.specs.Growing.{Grew, Added, SentIf, sentAt, hasAt, Takes, Gained, Only, Sends, noHeavier, Hears, RuleThree, Noted, Stale};
 ghost use Rattle.mending.specs.Growing.{setClear, LargeSets, SetNoted, AllNoted, NodeNoted, Swept, Clean, Finished, OwnMarked};
 use layout::Sizes;
 use pairs::Side;
@@ -330,6 +330,23 @@ fn join_all(
     }
 }
 
+// The rows of r's parameters have all that is sent.
+fn has_all(rows: &[u64], sent: &[u64], r: Record) -> bool
+    requires { ⌜ (length (now sent) ≡ 32) × SentRows (now rows) r ⌝ }
+    ensures { λ b. ⌜ b ≡ every (r .arity) (hasAt (now (rows .entry)) r (now (sent .entry))) ⌝ }
+{
+    let bound = r.args;
+    let arity = r.arity;
+    let mut m: usize = 0;
+    while m < arity {
+        if !marks::contained(sent, m, rows, wire::byte_index(bound[m])) {
+            return false;
+        }
+        m += 1;
+    }
+    true
+}
+
 // Node j weighs no more than node i.
 fn no_heavier(balances: usize, loads: &[u32], i: usize, j: usize) -> bool
     requires { ⌜ HalfRow (now loads) balances i × HalfRow (now loads) balances j ⌝ }
@@ -416,7 +433,8 @@ fn spread(
     }
 }
 
-// What live senders send to p goes to every receiver from p on that hears them too: where many receive alike, one look at each sender will do.
+// What live senders send to p goes to every receiver from p on that hears them too: where many receive alike, one look at each sender will do. Where p
+// lacks nothing of it, the nodes are not gone through.
 fn mend_alike(
     rows: &mut [u64],
     names: &mut [u64],
@@ -436,6 +454,9 @@ fn mend_alike(
 {
     let mut sent = [0u64; 32];
     join_all(&mut sent, rows, file, t, balances, loads, bounds, links, p);
+    if has_all(rows, &sent, p.node) {
+        return;
+    }
     spread(rows, names, &sent, file, t, balances, loads, p);
 }
 

@@ -1,4 +1,4 @@
--- The loop's invariant: no balance passed is refused. The first balance that fails its test is the lowest.
+-- Without a balance nothing is searched. The loop's invariant: no balance passed is refused. The first balance that fails its test is the lowest.
 use Prim.Native.Nat.{ℕ, _≤_, _-_}
 use mathlib.Core.Path.{_≡_, sym, ap, ap₂, _∙_, subst}
 use mathlib.Core.Bool.{Bool, _&&_, _||_}
