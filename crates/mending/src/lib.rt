@@ -1,8 +1,8 @@
 // The mended rows of a table, and its file. Passes over pairs set what rule 3 asks for, until no row changes; a pass looks only at pairs that use a
-// name whose row changed in the pass before, and sets of senders are asked before single ones.
+// name whose row changed in the pass before. Sets of senders are asked before single ones, and what one receiver is sent goes to all that hear it.
 // Promises the rows that the model's rounds find, written with their word sum, and the number of bits set. Depends on lists (loads, bounds), flows
 // (rows, also as bytes), filter and senders (sets of senders), pairs, frees (the names that news open), layout, loads, arrays, records, marks, wire, model and
-// laws. The lists take 106,600 bytes of stack, those of a sweep 13,424.
+// laws. The lists take 106,600 bytes of stack, those of a sweep 10,200.
 ghost use mathlib.Core.Path.{_≡_};
 ghost use mathlib.Core.Bool.{true};
 ghost use mathlib.Core.List.{List};
@@ -774,7 +774,7 @@ fn sweep(
     }
 }
 
-// A pass: the pairs that use a name of `old`, each once: receivers on such a name beside every sender, the other receivers beside senders that use one.
+// A pass: the pairs that use a name of `old`: receivers on such a name beside every sender, then the other receivers beside senders that use one.
 // Answers the names whose rows changed.
 fn pass(
     old: &[u64],
