@@ -12,7 +12,7 @@ use Rattle.laws.specs.Search.{every}
 use Rattle.laws.proofs.Search.{decided, and-split, and-join, or-split, or-right, or-left, or-false, every-true, true-every, every-false, any-same, true-any}
 use Rattle.laws.proofs.Search.{any-false, any-true}
 use Rattle.marks.specs.Marks.{marked, share, inside}
-use Rattle.marks.proofs.Laws.{marked-none, inside-marked, marked-inside}
+use Rattle.marks.proofs.Laws.{marked-none, inside-marked, marked-inside, share-inside}
 use Rattle.model.specs.Memory.{isOut}
 use Rattle.model.specs.Rules.{Live, within}
 use Rattle.model.specs.Mend.{Rows, withRows}
@@ -28,7 +28,7 @@ use Rattle.pairs.specs.declared.Side.{Side}
 use Rattle.pairs.specs.Pairs.{Setting, setting, Given, Held, arrayIn, tableIn, bearsBoth, argumentHolds, breaksPair}
 use Rattle.pairs.proofs.Laws.{near, alive, live-near, meet-sends, live-is, agent-p, arities, arg-is}
 use Rattle.senders.specs.Sets.{sendsMarked}
-use Rattle.mending.specs.Growing.{Below, Grew, SentIf, Takes, Source, Gained, Only, Sends, Hears, RuleThree, touches, Noted}
+use Rattle.mending.specs.Growing.{Below, Grew, SentIf, Takes, Gained, Only, Sends, Hears, RuleThree, touches, Noted}
 use Rattle.mending.proofs.Growth.{unnoted}
 
 -- a setting with other rows
@@ -200,14 +200,6 @@ gained-asked g hp rp x was M rule below m few o h on =
 
 -- ---- receivers alike
 
-share-more : (rows rows′ : List ℕ) (u v u′ v′ : ℕ) → ((o : ℕ) → o < 256 → marked rows u o ≡ true → marked rows′ u′ o ≡ true)
-    → ((o : ℕ) → o < 256 → marked rows v o ≡ true → marked rows′ v′ o ≡ true) → share rows u rows v ≡ true → share rows′ u′ rows′ v′ ≡ true
-unfolding share
-share-more rows rows′ u v u′ v′ f g e =
-    let x = any-true 256 _ e in
-    let y = and-split _ _ (x .2) in
-    true-any 256 _ (x .0) (x .1) (and-join (f (x .0) (x .1) (y .0)) (g (x .0) (x .1) (y .1)))
-
 -- a sender that is live beside p is so beside r, where r receives by the same arity, on a channel that holds as much, and weighs no more
 module _ (S : Setting) (rows′ : List ℕ) (p r q : Side) (more : (v o : ℕ) → o < 256 → marked (S .rows) v o ≡ true → marked rows′ v o ≡ true) where
   lives-on : r .node .arity ≡ p .node .arity
@@ -218,7 +210,8 @@ module _ (S : Setting) (rows′ : List ℕ) (p r q : Side) (more : (v o : ℕ) �
       let y = and-split (isOut (nodeOf (q .node)) && eqb (p .node .arity) (q .node .arity)) _ (x .0) in
       and-join
       (and-join (subst (λ (n : ℕ). isOut (nodeOf (q .node)) && eqb n (q .node .arity) ≡ true) (sym arity) (y .0))
-      (share-more (S .rows) rows′ (p .node .name) (q .node .name) (r .node .name) (q .node .name) channel (more (q .node .name)) (y .1)))
+      (share-inside (S .rows) _ rows′ _ rows′ _ (marked-inside (S .rows) (p .node .name) rows′ (r .node .name) channel)
+      (share-inside (S .rows) _ rows′ _ (S .rows) _ (marked-inside (S .rows) (q .node .name) rows′ (q .node .name) (more (q .node .name))) (y .1))))
       (true-every (S .n) _ (λ k h.
       le-leb (loadIn (S .loads) (r .number) k + loadIn (S .loads) (q .number) k) (getD (S .bounds) k 0)
       (omega (

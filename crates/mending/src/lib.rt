@@ -88,7 +88,7 @@ fn sent_already(sent: &[u64], rows: &[u64], file: &[u8], t: Trailer, q: Side) ->
     true
 }
 
-// What is sent gets the rows of what sender q sends, where p and q are a live pair. What needs the fewest looks is asked first: a name may hold nothing yet.
+// What is sent gets the rows of what sender q sends, where p and q are a live pair. Whether it is there already is asked first: a name may hold nothing yet.
 fn join_pair(
     sent: &mut [u64],
     rows: &[u64],
@@ -355,7 +355,9 @@ fn no_heavier(balances: usize, loads: &[u32], i: usize, j: usize) -> bool
     let mut light = true;
     let mut k: usize = 0;
     while k < balances {
-        light = light & !loads::less(loads::load_at(loads, i, k), loads::load_at(loads, j, k));
+        let own = loads::load_at(loads, i, k);
+        let other = loads::load_at(loads, j, k);
+        light = light & !loads::less(own, other);
         k += 1;
     }
     light
@@ -584,7 +586,7 @@ fn mend_node(
 }
 
 // The pairs of a receiver on a name that is marked in `reach` (or, where `on` is false, is not) and a sender that uses a name that is marked in `chosen`,
-// by sets by arity, up to the first node that these do not settle. Answers that node.
+// by sets by arity, and by what one receiver is sent, up to the first node that these do not settle. Answers that node, or the number of nodes.
 fn sweep_large(
     chosen: &[u64],
     reach: &[u64],

@@ -2,14 +2,12 @@
 use denote.Ref.{now}
 use Prim.Native.Nat.{ℕ, _+_, _-_, _≤_, _<_}
 use mathlib.Core.List.{List}
-use lib.ListN.{length, getD}
+use lib.ListN.{getD}
 use mathlib.Core.Path.{_≡_, refl, _∙_, subst}
 use mathlib.Core.Bool.{Bool, true}
 use borrow.Author.Needs.{needs}
 use native.Mathlib.Omega.{arith}
-use Rattle.laws.proofs.Search.{and-split}
 use Rattle.model.specs.Memory.{isOut}
-use Rattle.records.specs.declared.Record.{Record}
 use Rattle.records.specs.Record.{nodeOf}
 use Rattle.arrays.proofs.Agents.{left-below}
 use Rattle.pairs.specs.declared.Side.{Side}

@@ -1,4 +1,4 @@
--- What all live senders send to p, and nothing else, is what is spread.
+-- Nothing is spread but what live senders send to p.
 use denote.Ref.{now}
 use mathlib.Core.Path.{refl}
 use borrow.Author.Needs.{needs}

@@ -6,10 +6,10 @@ use borrow.Author.Needs.{needs}
 use native.Mathlib.Omega.{arith}
 use Rattle.arrays.proofs.Agents.{small-arity}
 use Rattle.pairs.specs.Pairs.{Setting, setting}
-use Rattle.pairs.proofs.Laws.{agent-p, arg-row}
 use Rattle.mending.specs.Growing.{RuleThree}
 use Rattle.mending.proofs.Growth.{grew-by}
 use Rattle.mending.proofs.Noting.{asked-begun, gained-asked, sent-noted}
+use Rattle.mending.proofs.Skipping.{channel-there}
 use Rattle.mending.proofs.Along.{held-at}
 use Rattle.mending.proofs.mend_members.Statement.{statement}
 use Rattle.mending.proofs.mend_members.Tie as tie
@@ -40,7 +40,7 @@ join-args-requires c κs =
     let p = c .before .before .before .before .before .before .before .before .pre in
     let g = p .0 .0 in
     let hp = p .1 .0 .0 in
-    (refl, record { few = small-arity (g .read) hp; args = arg-row g hp (agent-p g hp (p .1 .0 .1) hp) }, omega (arith, g .read .fills), hp)
+    (refl, channel-there g hp (p .1 .0 .1) .1, omega (arith, g .read .fills), hp)
 
 join-members-requires : tie.Need-join-members-requires
 join-members-requires c κs =

@@ -6,7 +6,6 @@ use borrow.Author.Needs.{needs}
 use native.Mathlib.Omega.{arith}
 use Rattle.records.specs.Record.{nodeOf}
 use Rattle.records.specs.Kinds.{isReceiver}
-use Rattle.pairs.specs.declared.Side.{Side}
 use Rattle.pairs.specs.Pairs.{Setting, Held, setting}
 use Rattle.filter.proofs.Laws.{receives-figures}
 use Rattle.mending.proofs.Growth.{grew-same}

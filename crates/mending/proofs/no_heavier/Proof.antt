@@ -1,6 +1,6 @@
--- The flag of the loop says that the balances passed do not tell them apart.
+-- The flag of the loop says that node j weighs no more in the balances passed.
 use Prim.Native.Nat.{_≤_, _-_}
-use mathlib.Core.Path.{_≡_, sym, _∙_}
+use mathlib.Core.Path.{_≡_, sym}
 use denote.Ref.{now}
 use borrow.Author.Needs.{needs}
 use native.Mathlib.Omega.{arith}
@@ -26,7 +26,7 @@ load-at-requires-2 : tie.Need-load-at-requires-2 Inv-loop μ-loop
 load-at-requires-2 c κs = c .before .before .before .before .pre .1 (c .before .before .loop .k) (c .before .loop-test .taken)
 
 less-requires : tie.Need-less-requires Inv-loop μ-loop
-less-requires c κs = (c .before .load-at .ensures .1, c .load-at2 .ensures .1)
+less-requires c κs = let a = c .before .load-at .ensures .1 in let b = c .load-at2 .ensures .1 in (omega (arith, a, b), omega (arith, a, b))
 
 loop-again : tie.Need-loop-again Inv-loop μ-loop
 loop-again c =

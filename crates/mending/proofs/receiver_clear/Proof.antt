@@ -1,8 +1,6 @@
 -- The two tests are those of the promise.
-use denote.Ref.{now}
 use mathlib.Core.Path.{sym, _∙_}
 use mathlib.Core.Bool.{true≢false}
-use borrow.Author.Needs.{needs}
 use native.Mathlib.Omega.{arith}
 use Rattle.laws.proofs.Search.{differs}
 use Rattle.mending.proofs.receiver_clear.Statement.{statement}

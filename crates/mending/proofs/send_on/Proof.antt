@@ -1,5 +1,4 @@
 -- What live senders send to p is asked of a receiver that hears what p does.
-use mathlib.Core.Path.{sym, _∙_}
 use borrow.Author.Tests.{not-false}
 use borrow.Author.Needs.{needs}
 use Rattle.pairs.specs.Pairs.{setting}

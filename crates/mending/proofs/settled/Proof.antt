@@ -6,10 +6,8 @@ use borrow.Author.Needs.{needs}
 use native.Mathlib.Omega.{arith}
 use Rattle.records.specs.Record.{nodeOf}
 use Rattle.records.specs.Kinds.{isReceiver}
-use Rattle.records.proofs.KindLaws.{receiver-is}
-use Rattle.arrays.proofs.Agents.{small-arity}
 use Rattle.pairs.specs.declared.Side.{Side}
-use Rattle.pairs.specs.Pairs.{Setting, Given, Held, setting}
+use Rattle.pairs.specs.Pairs.{Setting, Held, setting}
 use Rattle.filter.proofs.Laws.{receives-figures}
 use Rattle.mending.proofs.Growth.{grew-same}
 use Rattle.mending.proofs.Noting.{given-again}
