@@ -1,5 +1,7 @@
 // Rows of 256 marks, each in four 64-bit words of a list of rows: test, set, share, contain, copy, join. A row is asked for by its number; where it
 // stands is said here. Promises equations with specs/Marks. Depends on laws and wire.
+#![tactic(auto)]
+
 ghost use Rattle.std.specs.Prelude.{◌≡◌, ◌/◌, ◌<◌, length, get_or, set};
 ghost use Rattle.marks.specs.Marks.{word_at, HasRow, marked, mark_if, words_share, word_inside, share, inside, Copied, join_word, Joined};
 

@@ -1,6 +1,8 @@
 // One node's record of 16 bytes, what it stands for, and the answers of refusals.
 // Promises equations with specs/Record; the kinds, by name, are tests of the node that a record stands for (specs/Kinds).
 // Depends on wire (numbers), model (what a record stands for) and laws.
+#![tactic(auto)]
+
 ghost use Rattle.std.specs.Prelude.{◌≡◌, not, ◌||◌, ◌+◌, ◌<◌, length, get_or};
 ghost use Rattle.model.specs.Tree.{is_agent, node_at};
 ghost use Rattle.model.specs.Memory.{is_out, is_resource};

@@ -1,5 +1,7 @@
 // Little-endian numbers in a slice of bytes, read and written, and the word sum of a file.
 // Promises equations with specs/Numbers; proofs/Written says that what is written is read back. Depends on laws.
+#![tactic(auto)]
+
 ghost use Rattle.std.specs.Prelude.{◌≡◌, ◌+◌, ◌*◌, ◌<◌, ◌≤◌, length};
 ghost use Rattle.laws.specs.Lists.{put};
 ghost use Rattle.wire.specs.Numbers.{u16_at, u32_at, u64_at, word_sum, le16, le32, seal_of};

@@ -1,0 +1,13 @@
+-- The words below w are joined, of a copy of row v.
+use Prim.Native.Nat.{◌≤◌, ◌-◌}
+use Rattle.marks.proofs.Laws.{Joining, join-begun, join_more, join-done}
+use borrow.Author.Rules.{rules}
+use native.Mathlib.Omega.{arith}
+use mathlib.Core.Path.{◌≡◌}
+use Rattle.marks.proofs.join.Given as goal
+
+abbrev pub invariant-loop-w : goal.invariant-loop-w
+invariant-loop-w l = (l.w ≤ 4) × Joining l.initial.one l.one l.u l.row 0 l.w
+
+abbrev pub decreases-loop-w : goal.decreases-loop-w
+decreases-loop-w l = 4 - l.w
