@@ -1,5 +1,7 @@
 // Scripts of engine calls: the parts and commands of a script file, and check numbers of lists. For the test program `calls` alone.
 // Promises safety, and the bounds that its callers need. Depends on wire.
+#![tactic(auto)]
+
 ghost use Rattle.std.specs.Prelude.{◌≡◌, ◌*◌, ◌<◌, ◌≤◌, length};
 
 // A counted part of the script: where its content starts and the next part, in words, and how many things it has.

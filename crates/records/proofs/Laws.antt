@@ -20,7 +20,6 @@ use Rattle.model.proofs.Tree.{child-above}
 use Rattle.records.specs.declared.Record.{Record}
 use Rattle.records.specs.declared.Trailer.{Trailer}
 use Rattle.records.specs.Record.{record_at, record_of, args_of, sort_of, node_of, array_of}
-use Rattle.records.specs.contracts.Record.{the_type}
 
 -- n bytes from place b + k on, one by one
 abbrev pub bytes : ℕ → ℕ → ℕ → List ℕ → List ℕ
@@ -37,10 +36,6 @@ bytes_take (suc n) k b s h =
 -- a record inside the file has its 8 argument bytes
 pub eight-args : (s : List ℕ) (b : ℕ) → b + 15 < length s → length (record_at s b).args ≡ 8
 eight-args s b h = length-take-le 8 (drop (b + 8) s) (simp length-drop (omega arith))
-
--- a record that a function holds (`Is` of it is what `.good` tells) has its 8 argument bytes
-pub eight-held : (r : Record) (vs : List Val) → Is (row the_type) r vs → length r.args ≡ 8
-eight-held r vs h = sym (length-map r.args (λ v. v)) ∙ h.1.1.1.1.1.1.1.1.0.1.0.1
 
 -- a statement of a record's kind and of its node, kind by kind; kinds above 3 read as agents
 module _ (r : Record) (P : ℕ → Node → Type 0)

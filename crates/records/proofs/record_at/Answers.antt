@@ -9,14 +9,14 @@ use Rattle.records.proofs.record_at.Goals as goal
 
 pub returns : goal.returns
 returns c =
-    let x = (c.args in
+    let x = c.args in
     let args = bytes_take 8 8 x.at x.s.now (omega arith) in
     λ i. record {
-      kind = (c.byte_index.ensures.0 i;
-      arity = (c.byte_index-2.ensures.0 i;
-      left = (c.u16_at.ensures i;
-      right = (c.u16_at-2.ensures i;
-      name = (c.byte_index-3.ensures.0 i;
+      kind = c.byte_index.ensures.0 i;
+      arity = c.byte_index-2.ensures.0 i;
+      left = c.u16_at.ensures i;
+      right = c.u16_at-2.ensures i;
+      name = c.byte_index-3.ensures.0 i;
       pad = get_or x.s.now (x.at + 7) 0;
       args = sym args i;
     }
