@@ -10,7 +10,7 @@ ghost use Rattle.arrays.specs.File.{array_form, trailer_of, from2, from4, from6,
 
 use records::{Check, Refusal, Trailer};
 
-#[derive(Drop)]
+#[derive(Clone, Copy)]
 pub enum ArrayAnswer {
     Read(Trailer),
     Refused(Refusal),

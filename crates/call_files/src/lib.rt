@@ -5,7 +5,7 @@
 ghost use Rattle.std.specs.Prelude.{◌≡◌, ◌*◌, ◌<◌, ◌≤◌, length};
 
 // A counted part of the script: where its content starts and the next part, in words, and how many things it has.
-#[derive(Drop)]
+#[derive(Clone, Copy)]
 pub struct Part {
     pub start: usize,
     pub count: usize,
@@ -14,7 +14,7 @@ pub struct Part {
 }
 
 // A command, its operands (whatever stands there where it has fewer), and where the next one starts.
-#[derive(Drop)]
+#[derive(Clone, Copy)]
 pub struct Command {
     pub op: usize,
     pub x: usize,

@@ -1,5 +1,7 @@
 // How often each node is a child and each name is bound, in tables filled once: refusals 9 and 11.
 // Promises the model's refusal9 and refusal11 of the array that the bytes stand for. Depends on records, wire, model and laws.
+#![tactic(auto)]
+
 ghost use Rattle.std.specs.Prelude.{◌≡◌, ◌&&◌, ◌||◌, ℕ, ◌+◌, ◌<◌, ◌≤◌, length, get_or, replicate, ltb, eqb};
 ghost use Rattle.laws.specs.Search.{first};
 ghost use Rattle.laws.specs.Lists.{times, one};

@@ -20,7 +20,7 @@ use records::Trailer;
 use steps::Fired;
 
 // The steps that a walk may make in all, and how many of them are left.
-#[derive(Drop)]
+#[derive(Clone, Copy)]
 pub struct Allowance {
     pub allowed: u32,
     pub left: u32,
@@ -61,7 +61,7 @@ impl Allowance {
 
 // One step of a walk: the receiver's and the sender's agent, the marker number of the receiver's continuation, and what the next step goes by:
 // the counts after it and the lessened allowance.
-#[derive(Drop)]
+#[derive(Clone, Copy)]
 pub struct Turn {
     pub receiver: usize,
     pub sender: usize,
@@ -71,21 +71,21 @@ pub struct Turn {
 }
 
 // The walk's next step, or why there is none.
-#[derive(Drop)]
+#[derive(Clone, Copy)]
 pub enum Stride {
     Ended(Ending),
     Made(Turn),
 }
 
 // The same, or refusal 23.
-#[derive(Drop)]
+#[derive(Clone, Copy)]
 pub enum Strode {
     Refused(u8),
     Strode(Stride),
 }
 
 // How a walk ended, the steps it made, and the counts it left.
-#[derive(Drop)]
+#[derive(Clone, Copy)]
 pub struct Walk {
     pub ending: Ending,
     pub steps: u32,
@@ -93,7 +93,7 @@ pub struct Walk {
 }
 
 // The same, or refusal 23.
-#[derive(Drop)]
+#[derive(Clone, Copy)]
 pub enum Walked {
     Refused(u8),
     Walked(Walk),

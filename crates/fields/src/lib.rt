@@ -1,6 +1,8 @@
 // The refusals that look at one record at a time: 6, 7, 8 and 10.
 // Promises refusal6 and refusal7 of specs/Fields, and the model's refusal8 and refusal10 of the array that the bytes stand for.
 // Depends on records, wire, model and laws.
+#![tactic(auto)]
+
 ghost use Rattle.std.specs.Prelude.{◌≡◌, ◌+◌};
 ghost use Rattle.laws.specs.Search.{every};
 ghost use Rattle.records.specs.Record.{RecordsFit, found_of};

@@ -42,7 +42,7 @@ use steps::Fired;
 use tables::TableAnswer;
 
 // Held with M, N, K, Q and the format, the first broken rule with its place figures, or the first refusal with its place.
-#[derive(Drop)]
+#[derive(Clone, Copy)]
 pub enum Verdict {
     Held(Sizes),
     Rule1(usize),
@@ -54,35 +54,35 @@ pub enum Verdict {
 }
 
 // The number of bits set, or the first refusal with its place.
-#[derive(Drop)]
+#[derive(Clone, Copy)]
 pub enum MendAnswer {
     Mended(usize),
     Refused(Refusal),
 }
 
 // The thread count after a start, or the first refusal with its place.
-#[derive(Drop)]
+#[derive(Clone, Copy)]
 pub enum StartAnswer {
     Started(usize),
     Refused(Refusal),
 }
 
 // The thread count and the marker count after a step, or the first refusal with its place.
-#[derive(Drop)]
+#[derive(Clone, Copy)]
 pub enum StepAnswer {
     Stepped(Counts),
     Refused(Refusal),
 }
 
 // How a walk ended, the steps made and the counts, or the first refusal with its place.
-#[derive(Drop)]
+#[derive(Clone, Copy)]
 pub enum WalkAnswer {
     Walked(Walk),
     Refused(Refusal),
 }
 
 // One step of a walk, its ending with the steps made, or the first refusal with its place.
-#[derive(Drop)]
+#[derive(Clone, Copy)]
 pub enum StrideAnswer {
     Made(Turn),
     Ended(Ending, u32),

@@ -1,5 +1,7 @@
 // The parts of a table file: sizes, offsets, and the table that the bytes stand for.
 // Promises equations with specs/Table, which also holds refusals 13 to 21, 30 and 31. Depends on records, wire, model and laws.
+#![tactic(auto)]
+
 ghost use Rattle.std.specs.Prelude.{◌≡◌, ◌≤◌, ◌<◌, length};
 ghost use Rattle.layout.specs.Table.{table_form, row_size, most_balances, sizes_of, balance_size, balance_at, claim_at, claim_of, ClaimsLie};
 
@@ -7,7 +9,7 @@ use model::Claim;
 use records::Trailer;
 
 // M, N, K and Q, and which format the letters name: 1 for `PIC1`, 0 for letters that are none.
-#[derive(Drop)]
+#[derive(Clone, Copy)]
 pub struct Sizes {
     pub nodes: usize,
     pub names: usize,

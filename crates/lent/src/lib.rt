@@ -10,7 +10,7 @@ ghost use Rattle.lent.specs.Lent.{lent_of};
 use records::Trailer;
 
 // How many threads and markers are in use.
-#[derive(Drop)]
+#[derive(Clone, Copy)]
 pub struct Counts {
     pub threads: usize,
     pub markers: usize,

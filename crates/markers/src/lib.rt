@@ -2,6 +2,8 @@
 // Promises equations with the model's entries. Depends on records, marks, wire, model and laws.
 // A check takes 32,768 bytes of stack for one mark per place of an entry: only an entry whose place is marked already is searched
 // for among the earlier ones.
+#![tactic(auto)]
+
 ghost use Rattle.std.specs.Prelude.{◌≡◌, true, cond, ◌+◌, ◌*◌, ◌<◌, ◌≤◌, length, drop};
 ghost use Rattle.laws.specs.Search.{every};
 ghost use Rattle.laws.specs.Lists.{put};
@@ -13,7 +15,7 @@ ghost use Rattle.markers.specs.Markers.{entry_of, slot_of, Seen, listed, entries
 use records::Trailer;
 
 // A marker entry: resource, out, and the numbers of their markers.
-#[derive(Drop)]
+#[derive(Clone, Copy)]
 pub struct Entry {
     pub resource: u16,
     pub out: u16,

@@ -19,7 +19,7 @@
 //   proofs/Cases    the marked cases of 01, by computation
 
 // A claim's four numbers. Declared here, so that definitions and readers speak of the same.
-#[derive(Drop)]
+#[derive(Clone, Copy)]
 pub struct Claim {
     pub agent: usize,
     pub most: usize,
@@ -28,7 +28,7 @@ pub struct Claim {
 }
 
 // Why a walk ended, by 01's names. Declared here, so that definitions, engine and answers speak of the same three.
-#[derive(Drop)]
+#[derive(Clone, Copy)]
 pub enum Ending {
     Quiet,
     Spent,

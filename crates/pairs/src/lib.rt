@@ -13,14 +13,14 @@ ghost use Rattle.pairs.specs.Pairs.{NameRow, ArgumentRows, NeedThere, Gives, Fig
 use records::{Record, Trailer};
 
 // The place of a broken rule: receiver, sender and the last figure, which counts from 0.
-#[derive(Drop)]
+#[derive(Clone, Copy)]
 pub enum Place {
     Nowhere,
     At(usize, usize, usize),
 }
 
 // One side of a pair: a node's number and its record.
-#[derive(Drop)]
+#[derive(Clone, Copy)]
 pub struct Side {
     pub number: usize,
     pub node: Record,

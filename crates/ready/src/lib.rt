@@ -12,14 +12,14 @@ ghost use Rattle.ready.specs.Ready.{Acts, act_of, meet, NoneReady, FirstSender, 
 use records::Trailer;
 
 // The first pair of threads that is ready: receiver and sender.
-#[derive(Drop)]
+#[derive(Clone, Copy)]
 pub enum Ready {
     Nothing,
     At(usize, usize),
 }
 
 // What a thread does: whether its agent receives or sends, the arity, and the word of its channel.
-#[derive(Drop)]
+#[derive(Clone, Copy)]
 struct Act {
     receives: bool,
     sends: bool,
@@ -28,7 +28,7 @@ struct Act {
 }
 
 // The sender that a search found, or the number of threads, and what is noted then: `noted` senders, all of the first `seen` threads.
-#[derive(Drop)]
+#[derive(Clone, Copy)]
 struct Search {
     sender: usize,
     noted: usize,

@@ -10,14 +10,14 @@ ghost use Rattle.records.specs.Record.{record_at, record_of, RecordsFit, node_of
 ghost use Rattle.records.specs.Kinds.{is_stop, is_new_node, is_par, is_choice, is_receiver};
 
 // Why a file is refused: the number of document 01 and the place, 0 where none is named.
-#[derive(Drop)]
+#[derive(Clone, Copy)]
 pub struct Refusal {
     pub number: u8,
     pub place: usize,
 }
 
 // What refusals checked in order answer.
-#[derive(Drop)]
+#[derive(Clone, Copy)]
 pub enum Check {
     Passed,
     Refused(Refusal),
@@ -25,7 +25,7 @@ pub enum Check {
 
 // What an array file's trailer says: where the records start, the numbers of nodes and names, the word sum, and which format the letters
 // name: 1 for `PIS1`, 0 for letters that are none.
-#[derive(Drop)]
+#[derive(Clone, Copy)]
 pub struct Trailer {
     pub start: usize,
     pub nodes: usize,
@@ -34,7 +34,7 @@ pub struct Trailer {
     pub form: usize,
 }
 
-#[derive(Drop)]
+#[derive(Clone, Copy)]
 pub struct Record {
     pub kind: usize,
     pub arity: usize,

@@ -17,7 +17,7 @@ use pairs::Place;
 use records::Trailer;
 
 // The first broken rule with its place figures, or that none is broken. An argument counts from 1, as 01 has it.
-#[derive(Drop)]
+#[derive(Clone, Copy)]
 pub enum Ruling {
     Held,
     Rule1(usize),

@@ -1,6 +1,8 @@
 // Which names reach which node, in a table filled once from the root down: refusal 12.
 // Promises the model's refusal12 of the array that the bytes stand for, where 8 and 9 have passed.
 // Depends on records, marks, wire, model and laws. The table takes 32,768 bytes of stack.
+#![tactic(auto)]
+
 ghost use Rattle.std.specs.Prelude.{◌≡◌, true, ◌&&◌, ◌||◌, ℕ, ◌+◌, ◌<◌, ◌≤◌, length, replicate};
 ghost use Rattle.laws.specs.Search.{clear};
 ghost use Rattle.laws.specs.Lists.{all, has};

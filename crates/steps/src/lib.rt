@@ -18,14 +18,14 @@ use records::{Record, Trailer};
 
 // What becomes of a start or a step: refused, by its number, or the counts after it and the marker number of the receiver's continuation, 0 after
 // a start. A ready pair is refused by 28 or 29 alone.
-#[derive(Drop)]
+#[derive(Clone, Copy)]
 pub enum Fired {
     Stopped(u8),
     Made(Counts, u32),
 }
 
 // A receiver and a sender: their positions, and the records of their agents.
-#[derive(Drop)]
+#[derive(Clone, Copy)]
 struct Meeting {
     receiver: usize,
     sender: usize,
@@ -34,7 +34,7 @@ struct Meeting {
 }
 
 // The marker of the receiver's continuation: its number, how many markers are listed with it, and its entry, if it is to be added.
-#[derive(Drop)]
+#[derive(Clone, Copy)]
 struct NextMarker {
     number: u32,
     markers: usize,

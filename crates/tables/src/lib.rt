@@ -11,7 +11,7 @@ use arrays::ArrayAnswer;
 use layout::Sizes;
 use records::{Check, Refusal, Trailer};
 
-#[derive(Drop)]
+#[derive(Clone, Copy)]
 pub enum TableAnswer {
     Read(Sizes),
     Refused(Refusal),

@@ -1,0 +1,16 @@
+-- The loop's invariant: the table has counted the children of every record below j.
+use Prim.Native.Nat.{◌≤◌, ◌-◌}
+use mathlib.Core.Path.{◌≡◌, sym, ap, ◌∙◌}
+use lib.ListN.{length, replicate}
+use Rattle.model.specs.Formed.{children, fields_to}
+use Rattle.records.specs.Record.{record_of}
+use Rattle.counts.proofs.Laws.{Counted, counted_none, counted-more, counted-below, zeros-below, children-le, adds, counted-all}
+use native.Mathlib.Omega.{arith}
+use borrow.Author.Rules.{rules}
+use Rattle.counts.proofs.count_fields.Given as goal
+
+abbrev pub invariant-loop-j : goal.invariant-loop-j
+invariant-loop-j l = (l.j ≤ l.t.nodes) × Counted (replicate 1024 0) l.table (adds children l.file l.t) l.j
+
+abbrev pub decreases-loop-j : goal.decreases-loop-j
+decreases-loop-j l = l.t.nodes - l.j

@@ -1,0 +1,25 @@
+-- `scopes::args_marked` meets its contract. The loop's invariant: `found` says whether the first k arguments are marked.
+use Prim.Native.Nat.{ℕ, ◌≤◌, ◌-◌}
+use native.Mathlib.Omega.{arith}
+use mathlib.Core.Path.{◌≡◌, sym, ap, ap₂, ◌∙◌}
+use mathlib.Core.Bool.{Bool, ◌&&◌, ◌||◌}
+use mathlib.Core.List.{List}
+use lib.Dec.{leb}
+use lib.ListN.{length, get_or}
+use borrow.Author.Rules.{rules}
+use Rattle.laws.specs.Search.{every}
+use Rattle.laws.proofs.Search.{every-zero, every-step}
+use Rattle.laws.proofs.Lists.{all_take}
+use Rattle.records.specs.declared.Record.{Record}
+use Rattle.marks.specs.Marks.{marked}
+use Rattle.scopes.proofs.args_marked.Given as goal
+
+-- argument n, where the record has one, is marked
+abbrev pub arg_in : List ℕ → ℕ → Record → ℕ → Bool
+arg_in reach i r n = leb r.arity n || marked reach i (get_or r.args n 0)
+
+abbrev pub invariant-loop-k : goal.invariant-loop-k
+invariant-loop-k l = (l.k ≤ 8) × (l.found ≡ every l.k (arg_in l.reach l.i l.r))
+
+abbrev pub decreases-loop-k : goal.decreases-loop-k
+decreases-loop-k l = 8 - l.k
