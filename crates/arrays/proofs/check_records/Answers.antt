@@ -14,23 +14,23 @@ returns-then-passes c =
 pub returns-in-Refused : goal.returns-in-Refused
 returns-in-Refused c =
     let x = c.args in
-    refuses _ _ c.first_bad.result c.r-1.given.0.0
-    (c.first_bad.ensures ∙ first-bad-6 x.file.now x.t) c.r-1.given.1
+    refuses _ _ c.first_bad.result c.in-Refused.r
+    (c.first_bad.ensures ∙ first-bad-6 x.file.now x.t) c.in-Refused.is
 
 pub returns-in-Refused-first_bad : goal.returns-in-Refused-first_bad
 returns-in-Refused-first_bad c =
     let x = c.args in
     goes_on _ _ (passes c.first_bad.result
     (c.first_bad.ensures ∙ first-bad-6 x.file.now x.t)
-    c.enum_told-1.given.1)
-    (refuses _ _ c.first_bad-2.result c.r-in-Refused-first_bad-2-1.given.0.0
-    (c.first_bad-2.ensures ∙ first-bad-7 x.file.now x.t) c.r-in-Refused-first_bad-2-1.given.1)
+    c.in_default.is)
+    (refuses _ _ c.first_bad-2.result c.in-Refused-first_bad.r
+    (c.first_bad-2.ensures ∙ first-bad-7 x.file.now x.t) c.in-Refused-first_bad.is)
 
 pub returns : goal.returns
 returns c =
     let x = c.args in
     goes_on _ _ (passes c.first_bad.result
     (c.first_bad.ensures ∙ first-bad-6 x.file.now x.t)
-    c.enum_told-1.given.1)
+    c.in_default.is)
     (goes_on _ _ (passes c.first_bad-2.result
-    (c.first_bad-2.ensures ∙ first-bad-7 x.file.now x.t) c.enum_told-in_default-first_bad-1.given.1) c.check_tree.ensures)
+    (c.first_bad-2.ensures ∙ first-bad-7 x.file.now x.t) c.in_default-first_bad.is) c.check_tree.ensures)

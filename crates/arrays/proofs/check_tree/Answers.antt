@@ -8,39 +8,37 @@ use Rattle.arrays.proofs.check_tree.Goals as goal
 pub returns-in-Refused : goal.returns-in-Refused
 returns-in-Refused c =
     let x = c.args in
-    refuses _ _ c.first_bad.result c.r-1.given.0.0
-    (c.first_bad.ensures ∙ first-bad-8 x.file.now x.t) c.r-1.given.1
+    refuses _ _ c.first_bad.result c.in-Refused.r
+    (c.first_bad.ensures ∙ first-bad-8 x.file.now x.t) c.in-Refused.is
 
 pub returns-in-Refused-bad_parent : goal.returns-in-Refused-bad_parent
 returns-in-Refused-bad_parent c =
     let x = c.args in
     goes_on _ _ (passes c.first_bad.result
     (c.first_bad.ensures ∙ first-bad-8 x.file.now x.t)
-    c.enum_told-1.given.1)
-    (refuses _ _ c.bad_parent.result c.r-in-Refused-bad_parent-1.given.0.0
-    c.bad_parent.ensures c.r-in-Refused-bad_parent-1.given.1)
+    c.in_default.is)
+    (refuses _ _ c.bad_parent.result c.in-Refused-bad_parent.r
+    c.bad_parent.ensures c.in-Refused-bad_parent.is)
 
 pub check_names-requires : goal.check_names-requires
 check_names-requires c =
-    let x = c.args in (
-      search rules,
-      (
-        search rules,
-        (
+    let x = c.args in record {
+      records_fit = search rules;
+      names_bound = search rules;
+      t_value = (
           passes c.first_bad.result
               (c.first_bad.ensures ∙ first-bad-8 x.file.now x.t)
-              c.enum_told-1.given.1,
+              c.in_default.is,
           passes c.bad_parent.result c.bad_parent.ensures
-              c.enum_told-in_default-bad_parent-1.given.1,
-        ),
-      ),
-    )
+              c.in_default-bad_parent.is,
+        );
+    }
 
 pub returns : goal.returns
 returns c =
     let x = c.args in
     goes_on _ _ (passes c.first_bad.result
     (c.first_bad.ensures ∙ first-bad-8 x.file.now x.t)
-    c.enum_told-1.given.1)
+    c.in_default.is)
     (goes_on _ _ (passes c.bad_parent.result c.bad_parent.ensures
-    c.enum_told-in_default-bad_parent-1.given.1) c.check_names.ensures)
+    c.in_default-bad_parent.is) c.check_names.ensures)

@@ -25,7 +25,7 @@ check_letters-requires c =
 pub returns-in-Passed : goal.returns-in-Passed
 returns-in-Passed c =
     let s = c.args.file.now in
-    ap (λ x. trailer_answer (found_of x) c.read_trailer-t.result) (sym c.enum_told-1.given.1)
+    ap (λ x. trailer_answer (found_of x) c.read_trailer-t.result) (sym c.in-Passed.is)
     ∙ answered-by s c.read_trailer-t.result c.check_letters.result
     (c.if-not-len.false) c.read_trailer-t.ensures.0
     c.check_letters.ensures
@@ -33,7 +33,7 @@ returns-in-Passed c =
 pub returns-in-Refused : goal.returns-in-Refused
 returns-in-Refused c =
     let s = c.args.file.now in
-    ap (λ x. trailer_answer (found_of x) c.read_trailer-t.result) (sym c.r-1.given.1)
+    ap (λ x. trailer_answer (found_of x) c.read_trailer-t.result) (sym c.in-Refused.is)
     ∙ answered-by s c.read_trailer-t.result c.check_letters.result
     (c.if-not-len.false) c.read_trailer-t.ensures.0
     c.check_letters.ensures

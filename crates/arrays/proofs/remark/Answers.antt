@@ -11,16 +11,16 @@ use Rattle.arrays.proofs.remark.Goals as goal
 pub slice_bounds-result-end : goal.slice_bounds-result-end
 slice_bounds-result-end c =
     let s = c.args.file.now in
-    let t = c.t-1.given.0.0 in
-    let e : read_array s ≡ Read t = sym c.read_array.ensures ∙ c.t-1.given.1 in
+    let t = c.in-Read.t in
+    let e : read_array s ≡ Read t = sym c.read_array.ensures ∙ c.in-Read.is in
     sym (length-take-le _ s (omega (arith, (read_is s t e).fills)))
 
 pub returns-in-Read : goal.returns-in-Read
 returns-in-Read c =
     let s = c.args.file.now in
-    (ap (λ r. remark_in r s) (sym c.t-1.given.1 ∙ c.read_array.ensures), refl)
+    (ap (λ r. remark_in r s) (sym c.in-Read.is ∙ c.read_array.ensures), refl)
 
 pub returns-in-Refused : goal.returns-in-Refused
 returns-in-Refused c =
     let s = c.args.file.now in
-    (ap (λ r. remark_in r s) (sym c.enum_told-1.given.1 ∙ c.read_array.ensures), refl)
+    (ap (λ r. remark_in r s) (sym c.in-Refused.is ∙ c.read_array.ensures), refl)
