@@ -3,6 +3,8 @@
 // Promises the rows that the model's rounds find, written with their word sum, and the number of bits set. Depends on lists (loads, bounds), flows
 // (rows, also as bytes), filter and senders (sets of senders), pairs, frees (the names that news open), layout, loads, arrays, records, marks, wire, model and
 // laws. The lists take 106,600 bytes of stack, those of a sweep 10,200.
+#![tactic(auto)]
+
 ghost use Rattle.std.specs.Prelude.{◌≡◌, true, List, ℕ, ◌<◌, ◌≤◌, length, replicate};
 ghost use Rattle.laws.specs.Search.{every};
 ghost use Rattle.laws.specs.Lists.{put};

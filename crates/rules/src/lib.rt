@@ -2,6 +2,8 @@
 // Promises the model's verdict over the array and the table that the bytes stand for. Depends on filter and pairs (rules 3 and 4), flows,
 // lists and loads (the checker's own lists), claims (a set's first), layout, frees (the names that news open), arrays, records, marks, wire, model and laws.
 // The lists take 106,600 bytes of stack.
+#![tactic(auto)]
+
 ghost use Rattle.std.specs.Prelude.{◌≡◌, ◌+◌, ◌<◌, ◌≤◌, length};
 ghost use Rattle.model.specs.Rules as M;
 ghost use Rattle.records.specs.Record.{array_of, RecordsFit};

@@ -1,6 +1,8 @@
 // The step of a ready pair, made in place on lent lists, or refused by 28 or 29 with every word as it was: the marker is found, the
 // parameters bound and the threads counted before anything is written.
 // Promises the model's step of the lists. Depends on lent, unfolds, threads, ready, markers, frees, arrays, records, wire, model and laws.
+#![tactic(auto)]
+
 ghost use Rattle.std.specs.Prelude.{◌≡◌, true, cond, ◌+◌, ◌*◌, ◌-◌, ◌<◌, ◌≤◌, min, max, length, get_or};
 ghost use Rattle.laws.specs.Lists.{put};
 ghost use Rattle.model.specs.Numbers.{nobody};

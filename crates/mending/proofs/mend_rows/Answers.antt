@@ -1,0 +1,43 @@
+use mathlib.Core.Path.{◌≡◌, sym, ◌∙◌}
+use lib.ListN.{length}
+use borrow.Author.Tests.{not-true, not-false}
+use borrow.Author.Rules.{rules}
+use native.Mathlib.Omega.{arith}
+use Rattle.records.specs.Record.{array_of}
+use Rattle.pairs.specs.Pairs.{setting}
+use Rattle.mending.specs.Growing.{Clean}
+use Rattle.mending.proofs.Noting.{given-again}
+use Rattle.mending.proofs.Passing.{Between, between-same, between_more, between-after, weight, pass-weight, finish}
+use Rattle.mending.proofs.mend_rows.Goals as goal
+
+pub loop-t-init : goal.loop-t-init
+loop-t-init c = let f = c.first_pass-names.ensures in (between-same _, f.1, f.0.marks)
+
+pub contained-requires : goal.contained-requires
+contained-requires c = (omega (arith, c.loop-t.invariant.2), search rules)
+
+pub pass-names-requires : goal.pass-names-requires
+pass-names-requires c =
+    let l = c.loop-t.invariant in
+    (given-again c.requires (l.0.size ∙ c.first_pass-names.ensures.0.size), (l.2, l.1))
+
+pub loop-t-smaller : goal.loop-t-smaller
+loop-t-smaller c =
+    let l = c.loop-t in
+    pass-weight (given-again c.requires (l.invariant.0.size ∙ c.first_pass-names.ensures.0.size))
+    c.pass-names.ensures.0 l.names
+    (sym c.contained.ensures ∙ c.loop-t-test.true)
+
+pub loop-t-preserved : goal.loop-t-preserved
+loop-t-preserved c =
+    let p = c.pass-names.ensures in
+    (between_more c.loop-t.invariant.0 p.0, p.1, p.0.marks)
+
+pub shape_of-rows : goal.shape_of-rows
+shape_of-rows c = c.loop-t.invariant.0.size ∙ c.first_pass-names.ensures.0.size
+
+pub returns : goal.returns
+returns c =
+    let l = c.loop-t in
+    finish c.requires (between-after c.first_pass-names.ensures.0 l.invariant.0) l.names l.invariant.2
+    l.invariant.1 (sym c.contained.ensures ∙ c.loop-t-test.false)

@@ -1,0 +1,17 @@
+-- The names passed have their own marks.
+use Prim.Native.Nat.{ℕ, ◌≤◌, ◌-◌}
+use mathlib.Core.Path.{◌≡◌, ◌∙◌, subst}
+use mathlib.Core.List.{List}
+use borrow.Author.Rules.{rules}
+use native.Mathlib.Omega.{arith}
+use Rattle.marks.specs.Marks.{Joined}
+use Rattle.records.specs.Record.{array_of}
+use Rattle.mending.specs.Growing.{OwnMarked}
+use Rattle.mending.proofs.Own.{own-none, own-more}
+use Rattle.mending.proofs.own_marks.Given as goal
+
+abbrev pub invariant-loop-o : goal.invariant-loop-o
+invariant-loop-o l = (l.o ≤ l.t.names) × OwnMarked (array_of l.file l.t) l.o l.initial.rows l.rows
+
+abbrev pub decreases-loop-o : goal.decreases-loop-o
+decreases-loop-o l = l.t.names - l.o
