@@ -1,6 +1,8 @@
 // The step engine on the lists of an array that was read: start, step, and the walk of first ready pairs.
 // Promises the model's start, step and walk. Depends on steps, lent, ready, threads, markers, unfolds, frees, arrays, records, wire,
 // model and laws. The free names of all nodes are worked out once per call, into 32,768 bytes of the engine's own.
+#![tactic(auto)]
+
 ghost use Rattle.std.specs.Prelude.{◌≡◌, true, ◌+◌, ◌*◌, ◌-◌, ◌<◌, length, get_or, replicate};
 ghost use Rattle.model.specs.Calculus.{choices_of};
 ghost use Rattle.model.specs.Numbers.{nobody};

@@ -17,8 +17,11 @@ join_args-requires c =
     (refl, (channel-there c.requires.given.0 c.requires.reads.0 c.requires.reads.1).1, omega (arith, c.requires.given.0.read.fills), c.requires.reads.0)
 
 pub join_members-requires : goal.join_members-requires
-join_members-requires c =
-    ((c.requires.given.0, c.join_args.ensures.size, c.requires.given.2), c.requires.1)
+join_members-requires c = record {
+  given = (c.requires.given.0, c.join_args.ensures.size, c.requires.given.2);
+  reads = c.requires.reads;
+  by_index = c.requires.by_index;
+}
 
 pub add_args-requires : goal.add_args-requires
 add_args-requires c =
@@ -32,8 +35,13 @@ shape_of-names c = c.add_args.ensures.grew.marks
 
 pub returns : goal.returns
 returns c =
-    let has = c.join_args.ensures in
-    (
-      grew_by c.add_args.ensures.grew (RuleThree (let x = c.args in setting x.file.now x.t x.balances x.rows.now x.loads.now x.bounds.now) (gained-asked c.requires.given.0 c.requires.reads.0 c.requires.reads.1 c.join_members.ensures.gained (asked-begun (let x = c.args in setting x.file.now x.t x.balances x.rows.now x.loads.now x.bounds.now) c.args.p has)),
-      λ chosen sets linked j m. sent-noted c.requires.given.0 c.requires.reads.0 c.requires.reads.1 (held_at (let x = c.args in setting x.file.now x.t x.balances x.rows.now x.loads.now x.bounds.now) j m.0) _ c.add_args.ensures.grew (c.join_members.ensures.by_index_2 chosen sets linked j m) c.add_args.ensures.takes,
-    )
+    let x = c.args in
+    let S = setting x.file.now x.t x.balances x.rows.now x.loads.now x.bounds.now in
+    let g = c.requires.given.0 in
+    let hp = c.requires.reads.0 in
+    let rp = c.requires.reads.1 in
+    let grew = c.add_args.ensures in
+    let gained = c.join_members.ensures in record {
+      grew = grew_by grew.grew (RuleThree S) (gained-asked g hp rp gained.gained (asked-begun S x.p c.join_args.ensures));
+      by_index_2 = λ chosen sets linked j m. sent-noted g hp rp (held_at S j m.0) _ grew.grew (gained.by_index_2 chosen sets linked j m) grew.takes;
+    }
