@@ -12,5 +12,7 @@ pub shape_of-rows : goal.shape_of-rows
 shape_of-rows c = c.sweep.ensures.grew.size
 
 pub returns : goal.returns
-returns c =
-    (c.sweep.ensures.grew, clean-first (given-again c.requires c.sweep.ensures.grew.size) _ c.sweep.ensures.swept)
+returns c = record {
+      grew = c.sweep.ensures.grew;
+      clean = clean-first (given-again c.requires c.sweep.ensures.grew.size) _ c.sweep.ensures.swept;
+    }

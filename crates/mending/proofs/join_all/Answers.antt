@@ -11,8 +11,11 @@ pub loop-n-init : goal.loop-n-init
 loop-n-init c = (omega arith, gained-same _ _ _)
 
 pub join_members-requires : goal.join_members-requires
-join_members-requires c =
-    ((c.requires.given.0, c.loop-n.invariant.1.size ∙ c.requires.given.1, omega (arith, c.loop-n-test.true)), c.requires.1)
+join_members-requires c = record {
+  given = (c.requires.given.0, c.loop-n.invariant.1.size ∙ c.requires.given.1, omega (arith, c.loop-n-test.true));
+  reads = c.requires.reads;
+  by_index = c.requires.by_index;
+}
 
 pub loop-n-preserved : goal.loop-n-preserved
 loop-n-preserved c = (

@@ -46,7 +46,7 @@ sender c = record { number = c.loop-next.next - 1; node = c.node_at.result }
 
 -- what was done with the pair
 joined : (c : After-join_pair) → let x = c.args in let S = setting x.file.now x.t x.balances x.rows.now x.loads.now x.bounds.now in
-    let q = record { number = c.loop-next.next - 1; node = c.node_at.result } in
+    let q : Side = record { number = c.loop-next.next - 1; node = c.node_at.result } in
     Held S q → SentIf (alive S x.p q) S.rows c.node_at.result c.loop-next.sent c.join_pair.new.sent
 joined c hq =
     let x = c.args in
@@ -77,7 +77,7 @@ loop-next-init c =
 
 pub bounds-links-last_link : goal.bounds-links-last_link
 bounds-links-last_link c =
-    rw c.last_link.ensures (omega (arith, c.requires.given.2, c.requires.by_index.1.1.size))
+    rw c.last_link.ensures (omega (arith, c.requires.given.2, c.requires.by_index.2.size))
 
 pub node_at-requires : goal.node_at-requires
 node_at-requires c = (omega (arith, c.requires.given.0.read.fills), below (goal.at.node_at-requires c).In-loop-next)
@@ -104,7 +104,7 @@ join_pair-requires c =
 pub bounds-links-j : goal.bounds-links-j
 bounds-links-j c =
     let i = below (goal.at.bounds-links-j c).In-loop-next in
-    omega (arith, i, c.requires.given.0.read.formed.few_nodes, c.requires.by_index.1.1.size)
+    omega (arith, i, c.requires.given.0.read.formed.few_nodes, c.requires.by_index.2.size)
 
 pub loop-next-smaller : goal.loop-next-smaller
 loop-next-smaller c =

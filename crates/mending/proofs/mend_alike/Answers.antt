@@ -8,7 +8,11 @@ use Rattle.mending.proofs.Skipping.{channel-there}
 use Rattle.mending.proofs.mend_alike.Goals as goal
 
 pub join_all-requires : goal.join_all-requires
-join_all-requires c = ((c.requires.given.0, refl), c.requires.1)
+join_all-requires c = record {
+  given = (c.requires.given.0, refl);
+  reads = c.requires.reads;
+  by_index = c.requires.by_index;
+}
 
 pub has_all-requires : goal.has_all-requires
 has_all-requires c =

@@ -60,6 +60,6 @@ returns c =
     let l = c.mend_receiver.new in record {
       grew = c.mend_receiver.ensures.grew;
       by_index_2 = λ chosen k large.
-          node-noted (setting x.file.now x.t x.balances l.0 x.loads.now x.bounds.now) l.1.0 chosen x.reach.now x.on x.i
+          node-noted (setting x.file.now x.t x.balances l.rows x.loads.now x.bounds.now) l.names chosen x.reach.now x.on x.i
           c.node_at.result c.node_at.ensures (λ rp there. c.mend_receiver.ensures.by_index_2 chosen k);
     }

@@ -50,6 +50,6 @@ returns c =
     let x = c.args in record {
       grew = c.mend_members.ensures.grew;
       by_index_2 = λ chosen k q hq by of.
-          noted_of (setting x.file.now x.t x.balances l.0 x.loads.now x.bounds.now) l.1.0 x.p q hq
+          noted_of (setting x.file.now x.t x.balances l.rows x.loads.now x.bounds.now) l.names x.p q hq
           (c.mend_members.ensures.by_index_2 chosen k.gathered.sets k.gathered.linked q.number (hq.below, ap (λ r. sends_by chosen r) (sym hq.is) ∙ by, of));
     }
