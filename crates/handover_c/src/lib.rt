@@ -2,6 +2,8 @@
 // number, by the definitions in specs/Packed. Nothing is decided here. Depends on the front page and the crates whose types it names.
 //
 // A slice passes as a pointer and its length in elements; see the header for what a caller must see to.
+#![tactic(auto)]
+
 ghost use Rattle.std.specs.Prelude.{◌+◌, ◌*◌, ◌^◌, ◌≤◌, ◌<◌, ◌≡◌, [], length};
 ghost use Rattle.arrays.specs.File.{remark_of};
 ghost use Rattle.model.specs.Memory.{memory};
