@@ -2,6 +2,8 @@
 // Promises specs/File, for every byte string; proofs/Laws says what later crates may take from a file that was read.
 // Depends on scans (one pass that a file without a refusal passes), the crates that check one refusal each (fields, counts, scopes), records, wire, model
 // and laws.
+#![tactic(auto)]
+
 ghost use Rattle.std.specs.Prelude.{◌≡◌, ◌+◌, ◌*◌, ◌<◌, ◌≤◌, length};
 ghost use Rattle.laws.specs.Search.{clear};
 ghost use Rattle.model.specs.Formed.{refusal8, refusal9};

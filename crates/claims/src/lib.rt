@@ -1,5 +1,7 @@
 // Claims, their sets and their order: refusals 21, 30 and 31, and the first claim of a set.
 // Promises refusal21, refusal30 and refusal31 of layout, and FirstOf. Depends on layout, records, model and laws.
+#![tactic(auto)]
+
 ghost use Rattle.std.specs.Prelude.{◌≡◌, ◌<◌};
 ghost use Rattle.model.specs.Rules.{rises, comes_after};
 ghost use Rattle.records.specs.Record.{array_of, found_of, RecordsFit};

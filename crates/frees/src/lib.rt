@@ -1,6 +1,8 @@
 // The names that news open, as a row of marks; and the free names of all nodes, worked out once, from the last node to the first, into
 // a list that the caller lends: a row of marks for each node. Promises that each mark is that of the process tree.
 // Depends on arrays, scopes, records, marks, model and laws.
+#![tactic(auto)]
+
 ghost use Rattle.std.specs.Prelude.{◌≡◌, true, ℕ, ◌+◌, ◌<◌, length, get_or};
 ghost use Rattle.laws.specs.Lists.{has};
 ghost use Rattle.laws.specs.Bits.{bit};

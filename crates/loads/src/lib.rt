@@ -1,6 +1,8 @@
 // The loads of all nodes in all balances, worked out once, from the last node to the first, into a list that the caller lends. The list has two entries
 // to spare, so that it and the rows beside it start at a multiple of 16 bytes, as the compiler lays out the stack: else reads cross cache lines.
 // Promises that each entry is the load of the process tree. Depends on layout, records, wire, model and laws.
+#![tactic(auto)]
+
 ghost use Rattle.std.specs.Prelude.{◌≡◌, true, ℕ, ◌+◌, ◌<◌, ltb, length};
 ghost use Rattle.laws.specs.Lists.{has};
 ghost use Rattle.model.specs.Formed.{children, WellFormed};

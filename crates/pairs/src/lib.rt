@@ -2,6 +2,8 @@
 // Promises the model's pairs over the array that the file stands for and the table that the checker's own lists stand for: rows of
 // marks, loads of all nodes in all balances, bounds. A receiver's differences are worked out before its senders are looked at, and not for each of
 // them. Depends on loads, arrays, records, marks, wire, model and laws.
+#![tactic(auto)]
+
 ghost use Rattle.std.specs.Prelude.{◌≡◌, true, false, not, ◌&&◌, ℕ, ◌-◌, ◌<◌, ◌≤◌, length, eqb};
 ghost use Rattle.laws.specs.Search.{every};
 ghost use Rattle.model.specs.Tree.{is_agent};

@@ -1,5 +1,7 @@
 // Pairs of threads: whether a receiver and a sender are ready, and the first pair that is.
 // Promises equations with refusals 25 to 27 of the model's attempt. Depends on arrays, records, wire, model and laws.
+#![tactic(auto)]
+
 ghost use Rattle.std.specs.Prelude.{◌≡◌, true, ℕ, ◌+◌, ◌*◌, ◌<◌, ◌≤◌, length, get_or, drop};
 ghost use Rattle.laws.specs.Lists.{one};
 ghost use Rattle.model.specs.Tree.{node_at, is_agent};

@@ -1,6 +1,8 @@
 // One pass over the records, from the root down, that says yes only where none of the refusals 6 to 12 comes. A no says nothing: the reader then looks
 // for the refusal. Promises specs/Pass, Clear. Depends on fields, scopes and counts (the tests and tables of single refusals), records, marks, wire,
 // model and laws. The tables take 34,304 bytes of stack.
+#![tactic(auto)]
+
 ghost use Rattle.std.specs.Prelude.{◌≡◌, true, false, ℕ, ◌+◌, ◌*◌, ◌<◌, ◌≤◌, eqb, length, get_or, replicate};
 ghost use Rattle.laws.specs.Search.{every, any, sum};
 ghost use Rattle.laws.specs.Lists.{one};

@@ -1,5 +1,7 @@
 // Balances: refusal 20.
 // Promises refusal20 of layout. Depends on layout, records, wire, model and laws. The marks of agents take 1,024 bytes of stack.
+#![tactic(auto)]
+
 ghost use Rattle.std.specs.Prelude.{◌≡◌, false, ◌||◌, ℕ, ◌+◌, ◌*◌, ◌≤◌, ◌<◌, ◌%◌, length, get_or, eqb};
 ghost use Rattle.laws.specs.Search.{every};
 ghost use Rattle.model.specs.Tree.{node_at, is_agent};

@@ -1,0 +1,17 @@
+-- `frees::fill_row` meets its contract. The loop's invariant: the first w words of row i are right, and every word outside row i is as it was.
+use Prim.Native.Nat.{◌-◌, ◌≤◌, ◌<◌}
+use native.Mathlib.Omega.{arith}
+use mathlib.Core.Path.{◌≡◌, refl, ap, ◌∙◌}
+use lib.ListN.{length, length-set}
+use borrow.Author.Rules.{rules}
+use Rattle.marks.specs.Marks.{word_at}
+use Rattle.records.specs.Record.{node_of}
+use Rattle.frees.proofs.Laws.{SameElse, RowTo, else-set, row-set, row-filled}
+use Rattle.frees.proofs.fill_row.Given as goal
+
+abbrev pub invariant-loop-w : goal.invariant-loop-w
+invariant-loop-w l =
+    (l.w ≤ 4) × (length l.frees ≡ length l.initial.frees) × SameElse l.initial.frees l.frees l.i × RowTo l.initial.frees l.frees l.i (node_of l.r) l.w
+
+abbrev pub decreases-loop-w : goal.decreases-loop-w
+decreases-loop-w l = 4 - l.w

@@ -1,0 +1,16 @@
+-- The differences of the balances passed are there.
+use Prim.Native.Nat.{ℕ, ◌+◌, ◌-◌, ◌≤◌}
+use mathlib.Core.Path.{◌≡◌, sym, ap₂, ◌∙◌}
+use lib.ListN.{length, length-set}
+use Rattle.pairs.specs.Pairs.{gone_of, Differences}
+use Rattle.pairs.proofs.ByDifference.{differences-more}
+use borrow.Author.Rules.{rules}
+use native.Mathlib.Omega.{arith}
+use Rattle.pairs.proofs.differences.Given as goal
+
+abbrev pub invariant-loop-k : goal.invariant-loop-k
+invariant-loop-k l =
+    (l.k ≤ l.balances) × (length l.gives ≡ 24) × (length l.rooms ≡ 24) × Differences l.k l.loads l.bounds l.p l.gives l.rooms
+
+abbrev pub decreases-loop-k : goal.decreases-loop-k
+decreases-loop-k l = l.balances - l.k

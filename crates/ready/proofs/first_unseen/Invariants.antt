@@ -1,0 +1,21 @@
+-- `ready::first_unseen` meets its contract. The loop's invariant: none of the first s threads is ready with receiver p, and those that send are noted.
+use Prim.Native.Nat.{ℕ, ◌+◌, ◌-◌, ◌≤◌, ◌<◌}
+use native.Mathlib.Omega.{arith}
+use mathlib.Core.Path.{◌≡◌, sym, ap, ◌∙◌, subst}
+use mathlib.Core.Bool.{false}
+use lib.Dec.{eqb}
+use lib.ListN.{length, set, length-set}
+use borrow.Author.Count.{below_more}
+use borrow.Author.Tests.{eq-eqb, ne_eqb}
+use borrow.Author.Rules.{rules}
+use Rattle.model.proofs.Memory.{slot}
+use Rattle.ready.specs.Ready.{act_at, meet, NoneReady, Noted}
+use Rattle.ready.proofs.Noted.{noted_more}
+use Rattle.ready.proofs.first_unseen.Given as goal
+
+abbrev pub invariant-loop-s : goal.invariant-loop-s
+invariant-loop-s l =
+    (l.s ≤ l.count) × (length l.outs ≡ 256) × Noted l.file l.t l.threads l.s l.outs l.n × NoneReady l.file l.t l.threads l.p l.s
+
+abbrev pub decreases-loop-s : goal.decreases-loop-s
+decreases-loop-s l = l.count - l.s

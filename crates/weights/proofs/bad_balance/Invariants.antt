@@ -1,0 +1,23 @@
+-- Without a balance nothing is searched. The loop's invariant: no balance passed is refused. The first balance that fails its test is the lowest.
+use Prim.Native.Nat.{ℕ, ◌≤◌, ◌-◌}
+use mathlib.Core.Path.{◌≡◌, sym, ap, ap₂, ◌∙◌, subst}
+use mathlib.Core.Bool.{Bool, ◌&&◌, ◌||◌}
+use lib.Dec.{eqb}
+use borrow.Author.Tests.{not-true, not-false}
+use Rattle.laws.specs.Search.{first, clear}
+use Rattle.laws.proofs.Search.{clear-test, hit-test, first-zero, first-pass, first-here, every-same}
+use Rattle.model.specs.Formed.{refuse}
+use Rattle.records.specs.Record.{array_of}
+use Rattle.layout.specs.Table.{balance_at, weight_at, weights_fit, padding_fits, refusal20}
+use Rattle.layout.proofs.Laws.{balance-fits}
+use borrow.Author.Rules.{rules}
+use native.Mathlib.Omega.{arith}
+use Rattle.weights.proofs.bad_balance.Given as goal
+
+abbrev pub invariant-loop-k : goal.invariant-loop-k
+invariant-loop-k l =
+    (l.k ≤ l.z.balances)
+    × (first l.k (λ j. refuse 20 j (weights_fit (array_of l.file l.t) l.table (balance_at l.z j) && padding_fits (array_of l.file l.t) l.table (balance_at l.z j))) ≡ clear)
+
+abbrev pub decreases-loop-k : goal.decreases-loop-k
+decreases-loop-k l = l.z.balances - l.k
