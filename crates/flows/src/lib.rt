@@ -1,6 +1,8 @@
 // Flow rows as rows of marks, refusal 19, and a table written out again with other rows.
 // Promises the bits of the file, refusal19 of layout, and specs/Written. Depends on layout, frees, records, marks, wire, model and laws.
 // Refusal 19 takes 8,192 bytes of stack for the rows.
+#![tactic(auto)]
+
 ghost use Rattle.std.specs.Prelude.{◌≡◌, not, ◌&&◌, ℕ, ◌+◌, ◌*◌, ◌<◌, ◌≤◌, length};
 ghost use Rattle.laws.specs.Lists.{one, put};
 ghost use Rattle.laws.specs.Search.{sum};

@@ -1,6 +1,8 @@
 // The checker's own lists, filled from an array file and a table file that were read: loads of all nodes in all balances, bounds; beside rows of marks.
 // Promises that with the table's rows they stand for the array and the table of the bytes. Depends on loads, pairs (the lists' table), layout,
 // arrays, records, marks, wire, model and laws. Whoever lends the lists, with rows, gives 106,600 bytes of stack.
+#![tactic(auto)]
+
 ghost use Rattle.std.specs.Prelude.{◌≡◌, List, ℕ, ◌<◌, ◌≤◌, length, get_or};
 ghost use Rattle.wire.specs.Numbers.{u32_at};
 ghost use Rattle.arrays.specs.File.{IsRead};

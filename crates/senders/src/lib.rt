@@ -2,6 +2,8 @@
 // all together, and the largest need in each balance; and the senders of each set, linked.
 // Promises that each of these senders is in one set, that its set keeps what it asks of a receiver, and that the links pass every sender of a set.
 // Which set a sender is in is free. Depends on pairs (a side, what it needs), loads, arrays, records, marks, wire, model and laws.
+#![tactic(auto)]
+
 ghost use Rattle.std.specs.Prelude.{◌≡◌, ◌⊎◌, true, false, ℕ, ◌+◌, ◌<◌, ◌≤◌, List, eqb, length, replicate};
 ghost use Rattle.model.specs.Memory.{is_out};
 ghost use Rattle.records.specs.Record.{node_of, RecordsFit};

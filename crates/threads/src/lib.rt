@@ -1,5 +1,7 @@
 // Threads in a lent list of words: copied, bound, moved together, and checked (the part of refusal 23 that is about threads).
 // Promises equations with the model's threads. Depends on frees, arrays, records, marks, wire, model and laws.
+#![tactic(auto)]
+
 ghost use Rattle.std.specs.Prelude.{◌≡◌, map, ℕ, ◌+◌, ◌*◌, ◌<◌, ◌≤◌, length, get_or, take, drop};
 ghost use Rattle.laws.specs.Search.{every};
 ghost use Rattle.laws.specs.Lists.{All, put};

@@ -1,5 +1,7 @@
 // Unfolding a node into threads: counted, and written in place where there is room. Recursive; the environment is changed at a new and
 // put back. Promises the words and the number of the model's threads. Depends on frees, arrays, records, marks, model and laws.
+#![tactic(auto)]
+
 ghost use Rattle.std.specs.Prelude.{◌≡◌, cond, [], ◌∷◌, ◌+◌, ◌*◌, ◌/◌, ◌<◌, ◌≤◌, min, length};
 ghost use Rattle.laws.specs.Lists.{put};
 ghost use Rattle.marks.specs.Marks.{HasRow, marked};

@@ -1,0 +1,24 @@
+-- The loop's invariant: the test by marks finds nothing at the rows passed, and the marks are the table's bits. So the test of all rows
+-- is refusal 19 (`rows-checked`).
+use Prim.Native.Nat.{ℕ, ◌≤◌, ◌<◌, ◌-◌}
+use mathlib.Core.Path.{◌≡◌, sym, ◌∙◌}
+use mathlib.Core.List.{List}
+use lib.ListN.{length}
+use borrow.Author.Tests.{not-true, not-false}
+use Rattle.laws.specs.Search.{clear, first}
+use Rattle.laws.proofs.Search.{first-zero, first-pass, first-here, clear-test, hit-test}
+use Rattle.marks.specs.Marks.{marked}
+use Rattle.records.specs.Record.{array_of}
+use Rattle.layout.specs.Table.{row_bit, refusal19}
+use Rattle.flows.proofs.Laws.{check, rows-checked}
+use borrow.Author.Rules.{rules}
+use native.Mathlib.Omega.{arith}
+use Rattle.flows.proofs.bad_row.Given as goal
+
+abbrev pub invariant-loop-v : goal.invariant-loop-v
+invariant-loop-v l =
+    (l.v ≤ l.z.names) × (first l.v (check l.rows l.news) ≡ clear) × ((u o : ℕ) → u < l.z.names → o < 256 → marked l.rows u o ≡ row_bit l.table l.z u o)
+    × (length l.rows ≡ 1024)
+
+abbrev pub decreases-loop-v : goal.decreases-loop-v
+decreases-loop-v l = l.z.names - l.v

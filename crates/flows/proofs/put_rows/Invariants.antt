@@ -1,0 +1,19 @@
+-- The loop's invariant: the first i bytes of the rows are written.
+use Prim.Native.Nat.{◌≤◌, ◌-◌}
+use mathlib.Core.Path.{◌≡◌, refl, sym, ap, ◌∙◌}
+use lib.ListN.{length, length-set}
+use borrow.Author.Rules.{rules}
+use native.Mathlib.Omega.{arith}
+use Rattle.laws.specs.Lists.{put}
+use Rattle.laws.proofs.Put.{put-nil}
+use Rattle.marks.specs.Marks.{marked}
+use Rattle.layout.specs.Table.{balance_at}
+use Rattle.flows.specs.Written.{row_bytes}
+use Rattle.flows.proofs.RowBytes.{byte_put}
+use Rattle.flows.proofs.put_rows.Given as goal
+
+abbrev pub invariant-loop-i : goal.invariant-loop-i
+invariant-loop-i l = (l.i ≤ l.end) × (l.output ≡ put 0 (row_bytes l.i (marked l.rows)) l.initial.output) × (length l.output ≡ length l.initial.output)
+
+abbrev pub decreases-loop-i : goal.decreases-loop-i
+decreases-loop-i l = l.end - l.i

@@ -1,0 +1,17 @@
+-- `threads::move_down` meets its contract. The loop's invariant: the first j words were moved, and nothing else changed.
+use Prim.Native.Nat.{◌-◌, ◌≤◌}
+use native.Mathlib.Omega.{arith}
+use mathlib.Core.Path.{◌≡◌, refl, sym, ◌∙◌}
+use lib.ListN.{length, take, drop, length-set}
+use borrow.Author.Rules.{rules}
+use Rattle.laws.specs.Lists.{put}
+use Rattle.laws.proofs.Put.{put-nil}
+use Rattle.threads.proofs.Moves.{moved}
+use Rattle.threads.proofs.move_down.Given as goal
+
+abbrev pub invariant-loop-j : goal.invariant-loop-j
+invariant-loop-j l =
+    (l.j ≤ l.count) × (l.threads ≡ put l.to (take l.j (drop l.from l.initial.threads)) l.initial.threads) × (length l.threads ≡ length l.initial.threads)
+
+abbrev pub decreases-loop-j : goal.decreases-loop-j
+decreases-loop-j l = l.count - l.j

@@ -1,0 +1,21 @@
+-- The loop's invariant: the words of the first v names stand from `at` on, and every other word is as it was.
+use Prim.Native.Nat.{ℕ, ◌-◌, ◌≤◌}
+use native.Mathlib.Omega.{arith}
+use mathlib.Core.Path.{◌≡◌, refl, ap, ◌∙◌}
+use mathlib.Core.List.{List, []}
+use lib.ListN.{length, take, length-set}
+use lib.Seq.{take_all}
+use borrow.Author.Rules.{rules}
+use Rattle.laws.specs.Lists.{put}
+use Rattle.marks.specs.Marks.{marked}
+use Rattle.model.specs.Calculus.{cut_from}
+use Rattle.model.specs.Memory.{words}
+use Rattle.unfolds.proofs.Laws.{names-none, names_more}
+use Rattle.unfolds.proofs.write_names.Given as goal
+
+abbrev pub invariant-loop-v : goal.invariant-loop-v
+invariant-loop-v l =
+    (l.v ≤ length l.env) × (l.threads ≡ put l.at (cut_from (words []) (marked l.frees l.i) 0 (take l.v l.env)) l.initial.threads) × (length l.threads ≡ length l.initial.threads)
+
+abbrev pub decreases-loop-v : goal.decreases-loop-v
+decreases-loop-v l = length l.env - l.v
