@@ -1,6 +1,8 @@
 // Which receiver is the first that may be in a live pair that breaks rule 3 or 4: sets of senders are asked before single senders.
 // Promises that nothing is found below it: its contract goes one way, and the search over pairs says the rest. Depends on senders (the sets), pairs
 // (a pair alone), loads, arrays, records, marks, wire, model and laws. The lists of the sets take 6,744 bytes of stack.
+#![tactic(auto)]
+
 ghost use Rattle.std.specs.Prelude.{◌≡◌, true, ℕ, ◌<◌, ◌≤◌, length};
 ghost use Rattle.laws.specs.Search.{clear, every};
 ghost use Rattle.marks.specs.Marks.{HasRow};

@@ -1,5 +1,7 @@
 // The two lent lists: how many threads and markers are in use, whether so many fit, and refusal 23: whether the lists are well formed.
 // Promises the model's limits and its `formed`. Depends on threads, markers, frees, arrays, records, model and laws.
+#![tactic(auto)]
+
 ghost use Rattle.std.specs.Prelude.{◌≡◌, ◌≤◌, leb, length};
 ghost use Rattle.model.specs.Memory.{thread_room, marker_room, formed};
 ghost use Rattle.records.specs.Record.{array_of};

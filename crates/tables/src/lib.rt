@@ -2,6 +2,8 @@
 // Promises specs/Read, for every two byte strings; proofs/Laws says that a table that was read is one (IsTable, in layout), and proofs/Rewritten
 // that it is read again when it is written with other rows.
 // Depends on the crates that check one part each (flows, weights, claims), layout, arrays, records, wire, model and laws.
+#![tactic(auto)]
+
 ghost use Rattle.std.specs.Prelude.{◌≡◌, ◌≤◌, length};
 ghost use Rattle.records.specs.Record.{found_of, RecordsFit};
 ghost use Rattle.layout.specs.Table.{parts_fit, Laid};

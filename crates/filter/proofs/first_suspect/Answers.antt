@@ -11,8 +11,7 @@ use Rattle.records.specs.Record.{node_of}
 use Rattle.records.specs.Kinds.{is_receiver}
 use Rattle.pairs.specs.Pairs.{setting, figures_of}
 use Rattle.pairs.proofs.Search.{side_at, nothing-found}
-use Rattle.filter.proofs.first_suspect.Statement.{statement}
-use Rattle.filter.proofs.first_suspect.Tie as tie
+use Rattle.filter.proofs.first_suspect.Goals as goal
 
 -- without a balance a rule other than 3 has no figures
 no-figures : (rule n : ℕ) (r : Record) → not (eqb rule 3) && eqb n 0 ≡ true → figures_of rule n r ≡ 0
@@ -24,28 +23,23 @@ no-figures rule n r e =
     none true = refl
     none false = refl
 
-returns : tie.Need-returns
-returns c =
-    let s = c.before.before.before.before.before in
-    let x = s.args in
+pub returns-then-rule-balances : goal.returns-then-rule-balances
+returns-then-rule-balances c =
+    let x = c.args in
     let S = setting x.file.now x.t x.balances x.rows.now x.loads.now x.bounds.now in (
       omega arith,
-      λ i h. nothing-found x.rule {p = side_at S i} s.requires record { below = h; is = refl } (no-figures x.rule x.balances _ c.if1.true),
+      λ i h. nothing-found x.rule {p = side_at S i} c.requires record { below = h; is = refl } (no-figures x.rule x.balances _ c.if-rule-balances.true),
     )
 
-ask-requires : tie.Need-ask-requires
-ask-requires c κs = (c.before.before.before.before.before.requires, omega arith, λ i h. absurd (omega arith))
+pub ask-from-requires : goal.ask-from-requires
+ask-from-requires c = (c.requires, omega arith, λ i h. absurd (omega arith))
 
-returns-2 : tie.Need-returns-2
-returns-2 c = c.before.before.ask.ensures
+pub returns-then-from-t : goal.returns-then-from-t
+returns-then-from-t c = c.ask-from.ensures
 
-ask-requires-2 : tie.Need-ask-requires-2
-ask-requires-2 c κs =
-    let a = c.before.before in
-    (a.before.before.before.before.before.before.requires, a.ask.ensures.0, a.ask.ensures.1)
+pub ask-requires : goal.ask-requires
+ask-requires c =
+    (c.requires, c.ask-from.ensures.0, c.ask-from.ensures.1)
 
-returns-3 : tie.Need-returns-3
-returns-3 c = c.ask2.ensures
-
-pub first-suspect-spec : {M : Type 1} → statement M
-first-suspect-spec = tie.close (tie.spec returns ask-requires returns-2 ask-requires-2 returns-3)
+pub returns : goal.returns
+returns c = c.ask.ensures
