@@ -1,4 +1,4 @@
-//! Links the proved archive. HANDOVER_LIB names the folder that holds libhandover_c.a; without it, the one that `rt staticlib` writes to.
+//! Links the proved archive. HANDOVER_LIB names the folder that holds libhandover_c.a; without it, the one that `make` fills.
 use std::env;
 use std::path::Path;
 
