@@ -9,133 +9,135 @@
 //
 // A position or a count of 4294967295 stands for the largest that a call takes. A script that does not fit, that is cut, or that has an unknown
 // command or an index past its list is a bad script; the commands before that place are followed. A file that can't be opened is one too.
+#![tactic(auto)]
+
 ghost use Rattle.std.specs.Prelude.{◌<◌, ◌≤◌, length};
 
 use call_files::{Command, Part};
 use engine::{Allowance, Turn, Walk};
 use handover::{StartAnswer, StepAnswer, StrideAnswer, WalkAnswer};
 use lent::Counts;
-use libc::STDOUT_FILENO;
+use std::rt::{Env, Files};
 
 // The line's beginning.
-fn print_name(path: &[u8], call: &[u8]) {
-    io::write_all(STDOUT_FILENO, path);
-    io::write_all(STDOUT_FILENO, call);
+fn print_name(rt: &impl Print, path: &[u8], call: &[u8]) {
+    lines::print_text(rt, path);
+    lines::print_text(rt, call);
 }
 
 // The line's end.
-fn print_checks(threads: &[u32], markers: &[u16]) {
-    lines::print_figure(call_files::words_check(threads) as usize);
-    lines::print_figure(call_files::numbers_check(markers) as usize);
-    io::write_all(STDOUT_FILENO, b"\n");
+fn print_checks(rt: &impl Print, threads: &[u32], markers: &[u16]) {
+    lines::print_figure(rt, call_files::words_check(threads) as usize);
+    lines::print_figure(rt, call_files::numbers_check(markers) as usize);
+    lines::print_text(rt, b"\n");
 }
 
-fn print_word(x: u32) {
-    lines::print_figure(x as usize);
+fn print_word(rt: &impl Print, x: u32) {
+    lines::print_figure(rt, x as usize);
 }
 
-fn print_words(words: &[u32]) {
+fn print_words(rt: &impl Print, words: &[u32]) {
     let mut i: usize = 0;
     while i < words.len() {
-        print_word(words[i]);
+        print_word(rt, words[i]);
         i += 1;
     }
 }
 
-fn print_numbers(numbers: &[u16]) {
+fn print_numbers(rt: &impl Print, numbers: &[u16]) {
     let mut i: usize = 0;
     while i < numbers.len() {
-        print_word(call_files::as_word(numbers[i]));
+        print_word(rt, call_files::as_word(numbers[i]));
         i += 1;
     }
 }
 
-fn print_lists(path: &[u8], threads: &[u32], markers: &[u16]) {
-    print_name(path, b" lists");
-    print_words(threads);
-    io::write_all(STDOUT_FILENO, b" |");
-    print_numbers(markers);
-    io::write_all(STDOUT_FILENO, b"\n");
+fn print_lists(rt: &impl Print, path: &[u8], threads: &[u32], markers: &[u16]) {
+    print_name(rt, path, b" lists");
+    print_words(rt, threads);
+    lines::print_text(rt, b" |");
+    print_numbers(rt, markers);
+    lines::print_text(rt, b"\n");
 }
 
 // The answers. Each prints one and hands back the counts for the next call: those it was told, or after a refusal those of before.
-fn told_start(answer: StartAnswer, counts: Counts) -> Counts {
+fn told_start(rt: &impl Print, answer: StartAnswer, counts: Counts) -> Counts {
     match answer {
         StartAnswer::Started(threads) => {
-            io::write_all(STDOUT_FILENO, b"started");
-            lines::print_figure(threads);
+            lines::print_text(rt, b"started");
+            lines::print_figure(rt, threads);
             Counts {
                 threads,
                 markers: 0,
             }
         }
         StartAnswer::Refused(r) => {
-            lines::print_refusal(r);
+            lines::print_refusal(rt, r);
             counts
         }
     }
 }
 
 // The counts, which the next call is told.
-fn print_counts(counts: Counts) -> Counts {
-    lines::print_figure(counts.threads);
-    lines::print_figure(counts.markers);
+fn print_counts(rt: &impl Print, counts: Counts) -> Counts {
+    lines::print_figure(rt, counts.threads);
+    lines::print_figure(rt, counts.markers);
     counts
 }
 
-fn told_step(answer: StepAnswer, counts: Counts) -> Counts {
+fn told_step(rt: &impl Print, answer: StepAnswer, counts: Counts) -> Counts {
     match answer {
         StepAnswer::Stepped(made) => {
-            io::write_all(STDOUT_FILENO, b"stepped");
-            print_counts(made)
+            lines::print_text(rt, b"stepped");
+            print_counts(rt, made)
         }
         StepAnswer::Refused(r) => {
-            lines::print_refusal(r);
+            lines::print_refusal(rt, r);
             counts
         }
     }
 }
 
-fn print_walk(w: Walk) -> Counts {
+fn print_walk(rt: &impl Print, w: Walk) -> Counts {
     let ending = w.ending;
-    io::write_all(STDOUT_FILENO, b"walked ");
-    lines::print_ending(ending);
-    lines::print_figure(w.steps as usize);
-    print_counts(w.counts)
+    lines::print_text(rt, b"walked ");
+    lines::print_ending(rt, ending);
+    lines::print_figure(rt, w.steps as usize);
+    print_counts(rt, w.counts)
 }
 
-fn told_walk(answer: WalkAnswer, counts: Counts) -> Counts {
+fn told_walk(rt: &impl Print, answer: WalkAnswer, counts: Counts) -> Counts {
     match answer {
-        WalkAnswer::Walked(w) => print_walk(w),
+        WalkAnswer::Walked(w) => print_walk(rt, w),
         WalkAnswer::Refused(r) => {
-            lines::print_refusal(r);
+            lines::print_refusal(rt, r);
             counts
         }
     }
 }
 
-fn print_turn(t: Turn) -> Counts {
-    io::write_all(STDOUT_FILENO, b"made");
-    lines::print_figure(t.receiver);
-    lines::print_figure(t.sender);
-    lines::print_figure(t.marker as usize);
-    let next = print_counts(t.counts);
+fn print_turn(rt: &impl Print, t: Turn) -> Counts {
+    lines::print_text(rt, b"made");
+    lines::print_figure(rt, t.receiver);
+    lines::print_figure(rt, t.sender);
+    lines::print_figure(rt, t.marker as usize);
+    let next = print_counts(rt, t.counts);
     let left = t.allowance;
-    lines::print_figure(left.allowed as usize);
-    lines::print_figure(left.left as usize);
+    lines::print_figure(rt, left.allowed as usize);
+    lines::print_figure(rt, left.left as usize);
     next
 }
 
-fn told_stride(answer: StrideAnswer, counts: Counts) -> Counts {
+fn told_stride(rt: &impl Print, answer: StrideAnswer, counts: Counts) -> Counts {
     match answer {
-        StrideAnswer::Made(t) => print_turn(t),
+        StrideAnswer::Made(t) => print_turn(rt, t),
         StrideAnswer::Ended(ending, steps) => {
-            lines::print_ending(ending);
-            lines::print_figure(steps as usize);
+            lines::print_ending(rt, ending);
+            lines::print_figure(rt, steps as usize);
             counts
         }
         StrideAnswer::Refused(r) => {
-            lines::print_refusal(r);
+            lines::print_refusal(rt, r);
             counts
         }
     }
@@ -143,6 +145,7 @@ fn told_stride(answer: StrideAnswer, counts: Counts) -> Counts {
 
 // The calls, a line for each.
 fn call_start(
+    rt: &impl Print,
     path: &[u8],
     array: &[u8],
     choices: &[u8],
@@ -150,13 +153,14 @@ fn call_start(
     markers: &[u16],
     counts: Counts,
 ) -> Counts {
-    print_name(path, b" start ");
-    let next = told_start(handover::start(array, choices, threads), counts);
-    print_checks(threads, markers);
+    print_name(rt, path, b" start ");
+    let next = told_start(rt, handover::start(array, choices, threads), counts);
+    print_checks(rt, threads, markers);
     next
 }
 
 fn call_step(
+    rt: &impl Print,
     path: &[u8],
     array: &[u8],
     choices: &[u8],
@@ -166,14 +170,15 @@ fn call_step(
     receiver: usize,
     sender: usize,
 ) -> Counts {
-    print_name(path, b" step ");
+    print_name(rt, path, b" step ");
     let answer = handover::step(array, choices, threads, markers, counts, receiver, sender);
-    let next = told_step(answer, counts);
-    print_checks(threads, markers);
+    let next = told_step(rt, answer, counts);
+    print_checks(rt, threads, markers);
     next
 }
 
 fn call_walk(
+    rt: &impl Print,
     path: &[u8],
     array: &[u8],
     choices: &[u8],
@@ -182,14 +187,15 @@ fn call_walk(
     counts: Counts,
     allowed: u32,
 ) -> Counts {
-    print_name(path, b" walk ");
+    print_name(rt, path, b" walk ");
     let answer = handover::walk(array, choices, threads, markers, counts, allowed);
-    let next = told_walk(answer, counts);
-    print_checks(threads, markers);
+    let next = told_walk(rt, answer, counts);
+    print_checks(rt, threads, markers);
     next
 }
 
 fn call_stride(
+    rt: &impl Print,
     path: &[u8],
     array: &[u8],
     choices: &[u8],
@@ -199,7 +205,7 @@ fn call_stride(
     allowed: u32,
     left: u32,
 ) -> Counts {
-    print_name(path, b" stride ");
+    print_name(rt, path, b" stride ");
     let answer = handover::stride(
         array,
         choices,
@@ -208,25 +214,26 @@ fn call_stride(
         counts,
         Allowance { allowed, left },
     );
-    let next = told_stride(answer, counts);
-    print_checks(threads, markers);
+    let next = told_stride(rt, answer, counts);
+    print_checks(rt, threads, markers);
     next
 }
 
 // Sets a word or a number of the lists, or prints them.
-fn change(path: &[u8], threads: &mut [u32], markers: &mut [u16], c: Command)
+fn change(rt: &impl Print, path: &[u8], threads: &mut [u32], markers: &mut [u16], c: Command)
     requires { c.y < 4294967296 }
 {
     let op = c.op;
     match op {
         5 => call_files::set_word(threads, c.x, c.y as u32),
         6 => call_files::set_number(markers, c.x, c.y),
-        _ => print_lists(path, threads, markers),
+        _ => print_lists(rt, path, threads, markers),
     }
 }
 
 // Follows one command and hands back the counts for the next one.
 fn perform(
+    rt: &impl Print,
     path: &[u8],
     array: &[u8],
     choices: &[u8],
@@ -241,29 +248,32 @@ fn perform(
     let x = call_files::position(c.x);
     let y = call_files::position(c.y);
     match op {
-        0 => call_start(path, array, choices, threads, markers, counts),
-        1 => call_step(path, array, choices, threads, markers, counts, x, y),
-        2 => call_walk(path, array, choices, threads, markers, counts, c.x as u32),
+        0 => call_start(rt, path, array, choices, threads, markers, counts),
+        1 => call_step(rt, path, array, choices, threads, markers, counts, x, y),
+        2 => call_walk(
+            rt, path, array, choices, threads, markers, counts, c.x as u32,
+        ),
         3 => call_stride(
-            path, array, choices, threads, markers, counts, c.x as u32, c.y as u32,
+            rt, path, array, choices, threads, markers, counts, c.x as u32, c.y as u32,
         ),
         4 => Counts {
             threads: x,
             markers: y,
         },
         _ => {
-            change(path, threads, markers, c);
+            change(rt, path, threads, markers, c);
             counts
         }
     }
 }
 
-fn print_bad(path: &[u8]) {
-    print_name(path, b" bad script\n");
+fn print_bad(rt: &impl Print, path: &[u8]) {
+    print_name(rt, path, b" bad script\n");
 }
 
 // Follows the commands behind the two counts.
 fn follow(
+    rt: &impl Print,
     path: &[u8],
     s: &[u8],
     array: &[u8],
@@ -280,16 +290,17 @@ fn follow(
     while at < end {
         let c = call_files::command_at(s, at);
         if !call_files::is_good(c, end, threads.len(), markers.len()) {
-            print_bad(path);
+            print_bad(rt, path);
             return;
         }
-        counts = perform(path, array, choices, threads, markers, counts, c);
+        counts = perform(rt, path, array, choices, threads, markers, counts, c);
         at = c.next;
     }
 }
 
 // Fills the lists and follows the commands.
 fn load(
+    rt: &impl Print,
     path: &[u8],
     s: &[u8],
     array: &[u8],
@@ -301,11 +312,12 @@ fn load(
 ) {
     call_files::fill_words(words, threads);
     call_files::fill_numbers(numbers, markers);
-    follow(path, s, array, choices, threads, markers);
+    follow(rt, path, s, array, choices, threads, markers);
 }
 
 // Hands on the parts, and of the lists what the script asks for.
 fn lend(
+    rt: &impl Print,
     path: &[u8],
     s: &[u8],
     a: Part,
@@ -320,6 +332,7 @@ fn lend(
     let words = t.count;
     let numbers = m.count;
     load(
+        rt,
         path,
         call_files::rest(s, m.next),
         call_files::bytes(s, a.start, a.count),
@@ -332,7 +345,7 @@ fn lend(
 }
 
 // Takes the script apart. The lists lent are as long as the longest that a script may have.
-fn run(path: &[u8], s: &[u8], threads: &mut [u32], markers: &mut [u16]) {
+fn run(rt: &impl Print, path: &[u8], s: &[u8], threads: &mut [u32], markers: &mut [u16]) {
     let a = call_files::part_at(s, 0, 20000, 4);
     let c = call_files::part_at(s, a.next, 1000, 4);
     let t = call_files::part_at(s, c.next, threads.len(), 1);
@@ -340,28 +353,28 @@ fn run(path: &[u8], s: &[u8], threads: &mut [u32], markers: &mut [u16]) {
     let commands = call_files::rest(s, m.next);
     let fits = a.fits & c.fits & t.fits & m.fits;
     if fits & (8 <= commands.len()) & (s.len() % 4 == 0) {
-        lend(path, s, a, c, t, m, threads, markers);
+        lend(rt, path, s, a, c, t, m, threads, markers);
     } else {
-        print_bad(path);
+        print_bad(rt, path);
     }
 }
 
 // One byte more than the longest script is enough: a longer file then is cut to a length that is no multiple of 4.
-fn run_argument(i: usize) {
+fn run_argument(rt: &(impl Env + Files + Print), i: usize) {
     let mut file = [0u8; 400001];
     let mut threads = [0u32; 66560];
     let mut markers = [0u16; 16500];
-    let mut path = io::buffer();
-    let length = os::arg(i, &mut path);
-    let n = lines::read_file(&path[..length], &mut file);
-    run(&path[..length], &file[..n], &mut threads, &mut markers);
+    let mut path = [0u8; 4096];
+    let length = lines::argument(rt, i, &mut path);
+    let n = lines::read_file(rt, &path[..length], &mut file);
+    run(rt, &path[..length], &file[..n], &mut threads, &mut markers);
 }
 
-fn main() {
-    let count = os::arg_count();
+fn main(rt: HostRuntime) {
+    let count = lines::argument_count(&rt);
     let mut i: usize = 1;
     while i < count {
-        run_argument(i);
+        run_argument(&rt, i);
         i += 1;
     }
 }

@@ -1,45 +1,47 @@
 // inspect FILE..: reads each file as an array file and writes a line for it: the name, then `read`, the numbers of nodes and
 // names and the remark's length in bytes, or `refused`, the number and the place. A file that can't be opened counts as empty.
 // Thin: everything that matters is in the library. Its run over data/ is the reader's test.
-use arrays::ArrayAnswer;
-use libc::STDOUT_FILENO;
-use records::Trailer;
+#![tactic(auto)]
 
-fn print_read(t: Trailer, remark: usize) {
-    io::write_all(STDOUT_FILENO, b"read");
-    lines::print_figure(t.nodes);
-    lines::print_figure(t.names);
-    lines::print_figure(remark);
+use arrays::ArrayAnswer;
+use records::Trailer;
+use std::rt::{Env, Files};
+
+fn print_read(rt: &impl Print, t: Trailer, remark: usize) {
+    lines::print_text(rt, b"read");
+    lines::print_figure(rt, t.nodes);
+    lines::print_figure(rt, t.names);
+    lines::print_figure(rt, remark);
 }
 
 // The line's rest, after the name.
-fn print_answer(file: &[u8]) {
+fn print_answer(rt: &impl Print, file: &[u8]) {
     match handover::read_array(file) {
         ArrayAnswer::Read(t) => {
             let remark = handover::remark(file);
-            print_read(t, remark.len());
+            print_read(rt, t, remark.len());
         }
-        ArrayAnswer::Refused(r) => lines::print_refusal(r),
+        ArrayAnswer::Refused(r) => lines::print_refusal(rt, r),
     }
-    io::write_all(STDOUT_FILENO, b"\n");
+    lines::print_text(rt, b"\n");
 }
 
 // One word more than the longest array file is enough to see that a file is too long.
-fn print_argument(i: usize) {
+fn print_argument(rt: &(impl Env + Files + Print), i: usize) {
     let mut file = [0u8; 17428];
-    let mut path = io::buffer();
-    let length = os::arg(i, &mut path);
-    let n = lines::read_file(&path[..length], &mut file);
-    io::write_all(STDOUT_FILENO, &path[..length]);
-    io::write_all(STDOUT_FILENO, b" ");
-    print_answer(&file[..n]);
+    let mut path = [0u8; 4096];
+    let length = lines::argument(rt, i, &mut path);
+    let n = lines::read_file(rt, &path[..length], &mut file);
+    lines::print_text(rt, &path[..length]);
+    lines::print_text(rt, b" ");
+    print_answer(rt, &file[..n]);
 }
 
-fn main() {
-    let count = os::arg_count();
+fn main(rt: HostRuntime) {
+    let count = lines::argument_count(&rt);
     let mut i: usize = 1;
     while i < count {
-        print_argument(i);
+        print_argument(&rt, i);
         i += 1;
     }
 }

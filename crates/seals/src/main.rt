@@ -1,8 +1,8 @@
 // seals: writes an array file, a remark and one stop, and the empty table beside it, number by number, seals both, and writes what the readers
 // say of them: the remark's bytes, the array's line and the verdict. Its run is the test of the writers in wire.
-ghost use Rattle.std.specs.Prelude.{◌≤◌, length};
+#![tactic(auto)]
 
-use libc::STDOUT_FILENO;
+ghost use Rattle.std.specs.Prelude.{◌≤◌, length};
 
 // 8 bytes that tell the order in which they are written.
 fn write_remark(file: &mut [u8])
@@ -32,22 +32,22 @@ fn write_table(table: &mut [u8], sum: u32)
     wire::seal(table, 20, 826493264);
 }
 
-fn print_bytes(bytes: &[u8]) {
+fn print_bytes(rt: &impl Print, bytes: &[u8]) {
     let mut i: usize = 0;
     while i < bytes.len() {
-        lines::print_figure(wire::byte_index(bytes[i]));
+        lines::print_figure(rt, wire::byte_index(bytes[i]));
         i += 1;
     }
-    io::write_all(STDOUT_FILENO, b"\n");
+    lines::print_text(rt, b"\n");
 }
 
-fn main() {
+fn main(rt: HostRuntime) {
     let mut file = [0u8; 40];
     let mut table = [0u8; 28];
     write_array(&mut file);
     write_table(&mut table, wire::u32_at(&file, 32));
-    print_bytes(handover::remark(&file));
-    print_bytes(&file[24..]);
-    print_bytes(&table);
-    lines::print_verdict(handover::check(&file, &table));
+    print_bytes(&rt, handover::remark(&file));
+    print_bytes(&rt, &file[24..]);
+    print_bytes(&rt, &table);
+    lines::print_verdict(&rt, handover::check(&file, &table));
 }
