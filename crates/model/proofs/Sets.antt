@@ -10,7 +10,7 @@ use mathlib.Core.Bool.{Bool, true, false, cond, not}
 use mathlib.Core.List.{[], ◌∷◌}
 use lib.Dec.{eqb}
 use borrow.Author.Tests.{eqb-true, eqb-false, eq-eqb, ne_eqb, not-true}
-use Rattle.laws.specs.Search.{sum, any, least}
+use Rattle.laws.specs.Search.{sum}
 use Rattle.laws.specs.Lists.{one}
 use Rattle.laws.proofs.Search.{decided, and_split, and-join, or_split, or_left, or_right, same_test, any-true, true-any, sum_same, sum-add, sum_zeros}
 use Rattle.laws.proofs.Search.{sum-only, least-le, least-is}

@@ -17,6 +17,7 @@
 //   proofs/Engine   start, step and walk on lent lists are those of the calculus, and keep what refusal 23 asks
 //   proofs/Told     the walk told step by step is the walk, and each step that is told is the calculus'
 //   proofs/Cases    the marked cases of 01, by computation
+#![tactic(auto)]
 
 // A claim's four numbers. Declared here, so that definitions and readers speak of the same.
 #[derive(Clone, Copy)]

@@ -6,7 +6,6 @@ use Rattle.model.specs.Tree.{Array, Sort, Node, stop, new, par, choice, agent, o
 use Rattle.model.specs.Formed as F
 use Rattle.records.specs.declared.Record.{Record}
 use Rattle.records.specs.declared.Trailer.{Trailer}
-use Rattle.records.specs.declared.Refusal.{Refusal}
 use Rattle.records.specs.declared.Check.{Check}
 use Rattle.records.specs.declared.Check.TheVariants.{Passed, Refused}
 

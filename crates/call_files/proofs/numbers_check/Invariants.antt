@@ -1,7 +1,6 @@
 -- The loop ends with the list. Nothing has to hold from turn to turn.
 use lib.ListN.{length}
 use Prim.Native.Nat.{◌-◌}
-use borrow.Author.Rules.{rules}
 use Rattle.call_files.proofs.numbers_check.Given as goal
 
 abbrev pub invariant-loop-i : goal.invariant-loop-i

@@ -1,6 +1,3 @@
-use lib.ListN.{length}
-use Prim.Native.Nat.{◌-◌}
-use borrow.Author.Rules.{rules}
 use Rattle.call_files.proofs.words_check.Goals as goal
 
 pub loop-i-init : goal.loop-i-init

@@ -1,11 +1,6 @@
-use Prim.Native.Nat.{◌≤◌, ◌-◌}
 use mathlib.Core.Path.{◌≡◌, sym}
-use borrow.Author.Tests.{not-true, not-false}
-use Rattle.laws.specs.Search.{first, clear}
 use Rattle.laws.proofs.Search.{clear-test, hit-test, first-zero, first-pass, first-here}
-use Rattle.model.specs.Formed.{refuse}
-use Rattle.records.specs.Record.{array_of}
-use Rattle.layout.specs.Table.{table_of, claim_fits, refusal21}
+use Rattle.layout.specs.Table.{refusal21}
 use borrow.Author.Rules.{rules}
 use native.Mathlib.Omega.{arith}
 use Rattle.claims.proofs.bad_claim.Goals as goal

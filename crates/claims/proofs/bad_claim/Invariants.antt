@@ -1,14 +1,10 @@
 -- The loop's invariant: no claim passed is refused. The first claim that fails its test is the lowest.
 use Prim.Native.Nat.{◌≤◌, ◌-◌}
-use mathlib.Core.Path.{◌≡◌, sym}
-use borrow.Author.Tests.{not-true, not-false}
+use mathlib.Core.Path.{◌≡◌}
 use Rattle.laws.specs.Search.{first, clear}
-use Rattle.laws.proofs.Search.{clear-test, hit-test, first-zero, first-pass, first-here}
 use Rattle.model.specs.Formed.{refuse}
 use Rattle.records.specs.Record.{array_of}
-use Rattle.layout.specs.Table.{table_of, claim_fits, refusal21}
-use borrow.Author.Rules.{rules}
-use native.Mathlib.Omega.{arith}
+use Rattle.layout.specs.Table.{table_of, claim_fits}
 use Rattle.claims.proofs.bad_claim.Given as goal
 
 abbrev pub invariant-loop-c : goal.invariant-loop-c

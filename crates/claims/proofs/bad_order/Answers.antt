@@ -1,9 +1,5 @@
-use Prim.Native.Nat.{◌≤◌, ◌-◌}
 use mathlib.Core.Path.{◌≡◌, refl, sym, ap₂, ◌∙◌}
-use borrow.Author.Tests.{not-true, not-false}
-use Rattle.laws.specs.Search.{first, clear}
 use Rattle.laws.proofs.Search.{clear-test, hit-test, first-zero, first-pass, first-here}
-use Rattle.model.specs.Formed.{refuse}
 use Rattle.model.specs.Rules.{comes_after}
 use Rattle.layout.specs.Table.{table_of, in_order, refusal31}
 use Rattle.claims.proofs.Laws.{in_order_lem, fewer}

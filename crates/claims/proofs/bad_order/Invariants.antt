@@ -1,15 +1,9 @@
 -- The loop's invariant: every claim passed is in order. Claim 0 is, before anything is looked at.
 use Prim.Native.Nat.{◌≤◌, ◌-◌}
-use mathlib.Core.Path.{◌≡◌, refl, sym, ap₂, ◌∙◌}
-use borrow.Author.Tests.{not-true, not-false}
+use mathlib.Core.Path.{◌≡◌}
 use Rattle.laws.specs.Search.{first, clear}
-use Rattle.laws.proofs.Search.{clear-test, hit-test, first-zero, first-pass, first-here}
 use Rattle.model.specs.Formed.{refuse}
-use Rattle.model.specs.Rules.{comes_after}
-use Rattle.layout.specs.Table.{table_of, in_order, refusal31}
-use Rattle.claims.proofs.Laws.{in_order_lem, fewer}
-use borrow.Author.Rules.{rules}
-use native.Mathlib.Omega.{arith}
+use Rattle.layout.specs.Table.{table_of, in_order}
 use Rattle.claims.proofs.bad_order.Given as goal
 
 abbrev pub invariant-loop-next : goal.invariant-loop-next

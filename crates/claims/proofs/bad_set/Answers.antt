@@ -1,9 +1,5 @@
-use Prim.Native.Nat.{◌≤◌, ◌-◌}
 use mathlib.Core.Path.{◌≡◌, sym, ap₂, ◌∙◌}
-use borrow.Author.Tests.{not-true, not-false}
-use Rattle.laws.specs.Search.{first, clear}
 use Rattle.laws.proofs.Search.{clear-test, hit-test, first-zero, first-pass, first-here}
-use Rattle.model.specs.Formed.{refuse}
 use Rattle.layout.specs.Table.{table_of, agrees, set_fits, refusal30}
 use Rattle.claims.proofs.Laws.{fits-by-first}
 use borrow.Author.Rules.{rules}

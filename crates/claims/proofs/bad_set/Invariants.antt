@@ -1,14 +1,9 @@
 -- The loop's invariant: every claim passed fits. The first claim that differs from its set's first is the lowest that does not fit.
 use Prim.Native.Nat.{◌≤◌, ◌-◌}
-use mathlib.Core.Path.{◌≡◌, sym, ap₂, ◌∙◌}
-use borrow.Author.Tests.{not-true, not-false}
+use mathlib.Core.Path.{◌≡◌}
 use Rattle.laws.specs.Search.{first, clear}
-use Rattle.laws.proofs.Search.{clear-test, hit-test, first-zero, first-pass, first-here}
 use Rattle.model.specs.Formed.{refuse}
-use Rattle.layout.specs.Table.{table_of, agrees, set_fits, refusal30}
-use Rattle.claims.proofs.Laws.{fits-by-first}
-use borrow.Author.Rules.{rules}
-use native.Mathlib.Omega.{arith}
+use Rattle.layout.specs.Table.{table_of, set_fits}
 use Rattle.claims.proofs.bad_set.Given as goal
 
 abbrev pub invariant-loop-later : goal.invariant-loop-later

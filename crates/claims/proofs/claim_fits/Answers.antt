@@ -1,7 +1,6 @@
 -- The tests are the definition's.
 use mathlib.Core.Path.{ap, ◌∙◌}
 use Rattle.model.specs.Tree.{is_agent}
-use borrow.Author.Rules.{rules}
 use Rattle.claims.proofs.claim_fits.Goals as goal
 
 pub returns : goal.returns

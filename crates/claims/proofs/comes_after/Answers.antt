@@ -1,7 +1,6 @@
 -- Each number's test stands in the one before it.
 use mathlib.Core.Path.{◌∙◌, ap}
 use Rattle.model.specs.Rules.{rises}
-use borrow.Author.Rules.{rules}
 use Rattle.claims.proofs.comes_after.Goals as goal
 
 pub returns : goal.returns

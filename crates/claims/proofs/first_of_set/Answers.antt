@@ -1,11 +1,10 @@
-use Prim.Native.Nat.{ℕ, ◌≤◌, ◌<◌, ◌-◌}
+use Prim.Native.Nat.{ℕ, ◌<◌}
 use native.Mathlib.Nat.{eq-or-lt_of_le, le_of_suc-le-suc}
 use mathlib.Core.Path.{◌≡◌, sym, ap, ◌∙◌}
-use mathlib.Core.Logic.{◌≢◌, ⊎_elim}
+use mathlib.Core.Logic.{⊎_elim}
 use Rattle.model.specs.declared.Claim.{Claim}
 use Rattle.layout.specs.Table.{table_of}
 use Rattle.claims.proofs.Laws.{alone-first, numbered-first}
-use borrow.Author.Rules.{rules}
 use native.Mathlib.Omega.{arith}
 use Rattle.claims.proofs.first_of_set.Goals as goal
 use Rattle.claims.proofs.first_of_set.Goals.{In-loop-z}

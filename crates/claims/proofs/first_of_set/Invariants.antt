@@ -1,13 +1,7 @@
 -- The loop's invariant: no claim passed has claim c's set number. So the search ends at c, if not before.
 use Prim.Native.Nat.{ℕ, ◌≤◌, ◌<◌, ◌-◌}
-use native.Mathlib.Nat.{eq-or-lt_of_le, le_of_suc-le-suc}
-use mathlib.Core.Path.{◌≡◌, sym, ap, ◌∙◌}
-use mathlib.Core.Logic.{◌≢◌, ⊎_elim}
-use Rattle.model.specs.declared.Claim.{Claim}
+use mathlib.Core.Logic.{◌≢◌}
 use Rattle.layout.specs.Table.{table_of}
-use Rattle.claims.proofs.Laws.{alone-first, numbered-first}
-use borrow.Author.Rules.{rules}
-use native.Mathlib.Omega.{arith}
 use Rattle.claims.proofs.first_of_set.Given as goal
 
 abbrev pub invariant-loop-z : goal.invariant-loop-z

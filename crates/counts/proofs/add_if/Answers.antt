@@ -3,7 +3,6 @@ use native.Mathlib.Nat.{add-zero}
 use mathlib.Core.Path.{sym}
 use Rattle.laws.specs.Lists.{one}
 use Rattle.counts.proofs.Laws.{grown-set, grown-past}
-use borrow.Author.Rules.{rules}
 use Rattle.counts.proofs.add_if.Goals as goal
 
 pub returns-then-at-table : goal.returns-then-at-table

@@ -6,7 +6,6 @@ use lib.Dec.{eqb, leb-suc-zero}
 use Rattle.laws.proofs.Search.{first-same}
 use Rattle.model.specs.Formed.{refuse, refusal11}
 use native.Mathlib.Omega.{arith}
-use borrow.Author.Rules.{rules}
 use Rattle.counts.proofs.bad_binding.Goals as goal
 
 pub returns : goal.returns

@@ -7,7 +7,6 @@ use Rattle.laws.proofs.Search.{first-same}
 use Rattle.model.specs.Formed.{refuse, refusal9}
 use Rattle.counts.proofs.Laws.{below_one}
 use native.Mathlib.Omega.{arith}
-use borrow.Author.Rules.{rules}
 use Rattle.counts.proofs.bad_parent.Goals as goal
 
 pub returns : goal.returns

@@ -1,12 +1,8 @@
 -- The loop's invariant: the marks have counted the names that every record below j binds.
-use Prim.Native.Nat.{◌+◌, ◌*◌, ◌≤◌, ◌-◌}
-use mathlib.Core.Path.{◌≡◌, sym, ap, ◌∙◌}
-use lib.ListN.{length, replicate}
-use Rattle.model.specs.Formed.{binds, binders}
-use Rattle.records.specs.Record.{record_of}
-use Rattle.counts.proofs.Laws.{Counted, counted_none, counted-more, counted-below, zeros-below, few-args, binds-le, adds, counted-all}
-use native.Mathlib.Omega.{arith}
-use borrow.Author.Rules.{rules}
+use Prim.Native.Nat.{◌≤◌, ◌-◌}
+use lib.ListN.{replicate}
+use Rattle.model.specs.Formed.{binds}
+use Rattle.counts.proofs.Laws.{Counted, adds}
 use Rattle.counts.proofs.count_binders.Given as goal
 
 abbrev pub invariant-loop-j : goal.invariant-loop-j

@@ -2,7 +2,6 @@
 use native.Mathlib.Omega.{arith}
 use Rattle.laws.proofs.Lists.{one-le}
 use Rattle.counts.proofs.Laws.{grown-then, grown-below, times-children}
-use borrow.Author.Rules.{rules}
 use Rattle.counts.proofs.count_children.Goals as goal
 
 pub add_if-requires : goal.add_if-requires

@@ -1,9 +1,8 @@
-use Prim.Native.Nat.{◌≤◌, ◌-◌}
 use mathlib.Core.Path.{◌≡◌, sym, ap, ◌∙◌}
 use lib.ListN.{length, replicate}
 use Rattle.model.specs.Formed.{children, fields_to}
 use Rattle.records.specs.Record.{record_of}
-use Rattle.counts.proofs.Laws.{Counted, counted_none, counted-more, counted-below, zeros-below, children-le, adds, counted-all}
+use Rattle.counts.proofs.Laws.{counted_none, counted-more, counted-below, zeros-below, children-le, adds, counted-all}
 use native.Mathlib.Omega.{arith}
 use borrow.Author.Rules.{rules}
 use Rattle.counts.proofs.count_fields.Goals as goal

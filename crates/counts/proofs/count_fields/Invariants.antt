@@ -1,12 +1,8 @@
 -- The loop's invariant: the table has counted the children of every record below j.
 use Prim.Native.Nat.{◌≤◌, ◌-◌}
-use mathlib.Core.Path.{◌≡◌, sym, ap, ◌∙◌}
-use lib.ListN.{length, replicate}
-use Rattle.model.specs.Formed.{children, fields_to}
-use Rattle.records.specs.Record.{record_of}
-use Rattle.counts.proofs.Laws.{Counted, counted_none, counted-more, counted-below, zeros-below, children-le, adds, counted-all}
-use native.Mathlib.Omega.{arith}
-use borrow.Author.Rules.{rules}
+use lib.ListN.{replicate}
+use Rattle.model.specs.Formed.{children}
+use Rattle.counts.proofs.Laws.{Counted, adds}
 use Rattle.counts.proofs.count_fields.Given as goal
 
 abbrev pub invariant-loop-j : goal.invariant-loop-j

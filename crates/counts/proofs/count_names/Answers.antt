@@ -2,7 +2,6 @@
 use Rattle.laws.proofs.Lists.{one-le}
 use Rattle.counts.proofs.Laws.{grown-then, grown-below, times-binds}
 use native.Mathlib.Omega.{arith}
-use borrow.Author.Rules.{rules}
 use Rattle.counts.proofs.count_names.Goals as goal
 
 pub add_if-requires : goal.add_if-requires

@@ -1,8 +1,8 @@
-use Prim.Native.Nat.{ℕ, ◌+◌, ◌≤◌, ◌-◌}
+use Prim.Native.Nat.{ℕ, ◌+◌}
 use mathlib.Core.Path.{◌≡◌, sym, ap, ◌∙◌}
 use lib.ListN.{length, get_or}
 use Rattle.laws.proofs.Lists.{one-le}
-use Rattle.counts.proofs.Laws.{Counted, counted_none, counted-more, counted-below, param_at, times-params}
+use Rattle.counts.proofs.Laws.{counted_none, counted-more, counted-below, param_at, times-params}
 use native.Mathlib.Omega.{arith}
 use borrow.Author.Rules.{rules}
 use Rattle.counts.proofs.count_params.Goals as goal

@@ -1,11 +1,6 @@
 -- The loop's invariant: the table has counted the parameters among the first k argument bytes.
-use Prim.Native.Nat.{ℕ, ◌+◌, ◌≤◌, ◌-◌}
-use mathlib.Core.Path.{◌≡◌, sym, ap, ◌∙◌}
-use lib.ListN.{length, get_or}
-use Rattle.laws.proofs.Lists.{one-le}
-use Rattle.counts.proofs.Laws.{Counted, counted_none, counted-more, counted-below, param_at, times-params}
-use native.Mathlib.Omega.{arith}
-use borrow.Author.Rules.{rules}
+use Prim.Native.Nat.{◌≤◌, ◌-◌}
+use Rattle.counts.proofs.Laws.{Counted, param_at}
 use Rattle.counts.proofs.count_params.Given as goal
 
 abbrev pub invariant-loop-k : goal.invariant-loop-k

@@ -1,13 +1,5 @@
-use Prim.Native.Nat.{ℕ, ◌≤◌, ◌-◌}
 use mathlib.Core.Path.{◌≡◌, sym}
-use mathlib.Core.Bool.{Bool, ◌||◌}
-use mathlib.Core.List.{List}
-use lib.Dec.{ltb, eqb}
-use lib.ListN.{get_or}
-use borrow.Author.Tests.{not-true, not-false}
-use Rattle.laws.specs.Search.{Found, clear, first}
 use Rattle.laws.proofs.Search.{hit-test, clear-test, first-zero, first-pass, first-here}
-use Rattle.model.specs.Formed.{Refusal, refuse}
 use native.Mathlib.Omega.{arith}
 use borrow.Author.Rules.{rules}
 use Rattle.counts.proofs.first_not_one.Goals as goal

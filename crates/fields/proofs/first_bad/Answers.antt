@@ -1,9 +1,6 @@
-use Prim.Native.Nat.{◌≤◌, ◌-◌}
 use native.Mathlib.Omega.{arith}
 use mathlib.Core.Path.{◌≡◌, sym, ap, ◌∙◌}
 use borrow.Author.Rules.{rules}
-use borrow.Author.Tests.{not-true, not-false}
-use Rattle.laws.specs.Search.{first, clear}
 use Rattle.laws.proofs.Search.{clear-test, hit-test, first-zero, first-pass, first-here}
 use Rattle.fields.specs.Fields.{passes, bad_at, first_bad}
 use Rattle.fields.proofs.first_bad.Goals as goal

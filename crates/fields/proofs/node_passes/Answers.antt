@@ -1,5 +1,4 @@
 -- The tests of the number choose the same test as the definition.
-use borrow.Author.Rules.{rules}
 use borrow.Author.Tests.{eq-eqb, ne_eqb}
 use Rattle.fields.proofs.node_passes.Goals as goal
 

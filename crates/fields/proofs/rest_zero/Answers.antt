@@ -1,8 +1,6 @@
-use Prim.Native.Nat.{◌≤◌, ◌-◌}
 use mathlib.Core.Path.{◌≡◌, sym}
 use native.Mathlib.Omega.{arith}
 use borrow.Author.Rules.{rules}
-use Rattle.laws.specs.Search.{every}
 use Rattle.laws.proofs.Search.{every-zero, every-step}
 use Rattle.fields.specs.Fields.{rest_zero}
 use Rattle.fields.proofs.rest_zero.Goals as goal

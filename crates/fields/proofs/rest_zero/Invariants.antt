@@ -1,10 +1,7 @@
 -- The loop's flag says of the argument bytes passed that each of them is used or zero.
 use Prim.Native.Nat.{◌≤◌, ◌-◌}
-use mathlib.Core.Path.{◌≡◌, sym}
-use native.Mathlib.Omega.{arith}
-use borrow.Author.Rules.{rules}
+use mathlib.Core.Path.{◌≡◌}
 use Rattle.laws.specs.Search.{every}
-use Rattle.laws.proofs.Search.{every-zero, every-step}
 use Rattle.fields.specs.Fields.{rest_zero}
 use Rattle.fields.proofs.rest_zero.Given as goal
 

@@ -1,5 +1,4 @@
 -- The test is the definition's, by what the two calls answer.
-use borrow.Author.Rules.{rules}
 use Rattle.fields.proofs.unused_zero.Goals as goal
 
 pub returns : goal.returns

@@ -4,7 +4,6 @@ use mathlib.Core.Path.{◌≡◌, ap}
 use Rattle.layout.specs.Table.{balance_size}
 use Rattle.layout.proofs.Laws.{balances-small}
 use native.Mathlib.Omega.{arith}
-use borrow.Author.Rules.{rules}
 use Rattle.layout.proofs.balance_at.Goals as goal
 use Rattle.layout.proofs.balance_at.Goals.{After-balance_size, After-row_size}
 

@@ -1,7 +1,6 @@
 -- All balances together are small, so nothing wraps.
 use Rattle.layout.proofs.Laws.{balances-small}
 use native.Mathlib.Omega.{arith}
-use borrow.Author.Rules.{rules}
 use Rattle.layout.proofs.claim_at.Goals as goal
 
 pub overflow_add-result : goal.overflow_add-result

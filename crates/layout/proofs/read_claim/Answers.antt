@@ -1,5 +1,4 @@
 -- Field by field, what each read ensures.
-use borrow.Author.Rules.{rules}
 use Rattle.layout.proofs.read_claim.Goals as goal
 
 pub returns : goal.returns

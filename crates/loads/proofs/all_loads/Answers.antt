@@ -1,10 +1,4 @@
-use Prim.Native.Nat.{◌≤◌}
-use mathlib.Core.Path.{◌≡◌, ◌∙◌}
-use lib.ListN.{length}
-use Rattle.records.specs.Record.{array_of}
-use Rattle.layout.specs.Table.{table_of}
-use Rattle.loads.specs.Loads.{FilledFrom}
-use borrow.Author.Rules.{rules}
+use mathlib.Core.Path.{◌∙◌}
 use native.Mathlib.Omega.{arith}
 use Rattle.loads.proofs.all_loads.Goals as goal
 

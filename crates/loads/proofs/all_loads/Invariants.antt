@@ -1,12 +1,10 @@
 -- The loop's invariant: the loads of the nodes from i on are in the list.
 use Prim.Native.Nat.{◌≤◌}
-use mathlib.Core.Path.{◌≡◌, ◌∙◌}
+use mathlib.Core.Path.{◌≡◌}
 use lib.ListN.{length}
 use Rattle.records.specs.Record.{array_of}
 use Rattle.layout.specs.Table.{table_of}
 use Rattle.loads.specs.Loads.{FilledFrom}
-use borrow.Author.Rules.{rules}
-use native.Mathlib.Omega.{arith}
 use Rattle.loads.proofs.all_loads.Given as goal
 
 abbrev pub invariant-loop-i : goal.invariant-loop-i

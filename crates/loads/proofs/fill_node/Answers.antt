@@ -1,4 +1,4 @@
-use Prim.Native.Nat.{ℕ, ◌+◌, ◌*◌, ◌-◌, ◌≤◌, ◌<◌}
+use Prim.Native.Nat.{ℕ, ◌+◌, ◌*◌, ◌<◌}
 use native.Mathlib.Nat.{not-suc-le-zero, le_of_suc-le-suc}
 use mathlib.Core.Path.{◌≡◌, refl, ap, ◌∙◌}
 use lib.ListN.{length, length-set}
@@ -7,8 +7,7 @@ use Rattle.layout.proofs.Laws.{balance-fits}
 use Rattle.wire.proofs.Laws.{u16-small}
 use Rattle.records.proofs.Laws.{child-of}
 use Rattle.loads.specs.Loads.{entry_index, load_from}
-use Rattle.loads.proofs.Laws.{SameAbove, RowTo, above-set, row-set, half-child, filled_row}
-use borrow.Author.Rules.{rules}
+use Rattle.loads.proofs.Laws.{above-set, row-set, half-child, filled_row}
 use native.Mathlib.Omega.{arith}
 use Rattle.loads.proofs.fill_node.Goals as goal
 use Rattle.loads.proofs.fill_node.Goals.{At-loop-k}

@@ -1,16 +1,9 @@
 -- The loop's invariant: row i has the loads from the list as it was in the balances below k, and the rows above it are as they were.
-use Prim.Native.Nat.{ℕ, ◌+◌, ◌*◌, ◌-◌, ◌≤◌, ◌<◌}
-use native.Mathlib.Nat.{not-suc-le-zero, le_of_suc-le-suc}
-use mathlib.Core.Path.{◌≡◌, refl, ap, ◌∙◌}
-use lib.ListN.{length, length-set}
-use Rattle.layout.specs.Table.{balance_at, weight_at, table_of}
-use Rattle.layout.proofs.Laws.{balance-fits}
-use Rattle.wire.proofs.Laws.{u16-small}
-use Rattle.records.proofs.Laws.{child-of}
-use Rattle.loads.specs.Loads.{entry_index, load_from}
-use Rattle.loads.proofs.Laws.{SameAbove, RowTo, above-set, row-set, half-child, filled_row}
-use borrow.Author.Rules.{rules}
-use native.Mathlib.Omega.{arith}
+use Prim.Native.Nat.{◌-◌, ◌≤◌}
+use mathlib.Core.Path.{◌≡◌}
+use lib.ListN.{length}
+use Rattle.layout.specs.Table.{balance_at, weight_at}
+use Rattle.loads.proofs.Laws.{SameAbove, RowTo}
 use Rattle.loads.proofs.fill_node.Given as goal
 
 abbrev pub invariant-loop-k : goal.invariant-loop-k

@@ -1,7 +1,6 @@
 -- Numbers in the lower half are read as they are.
 use mir.Syntax.{w32}
 use mir.ValLaws.{to_z_pos}
-use borrow.Author.Rules.{rules}
 use Rattle.loads.proofs.less.Goals as goal
 
 pub returns : goal.returns

@@ -6,7 +6,6 @@ use Rattle.records.specs.Record.{node_of}
 use Rattle.records.specs.Kinds.{is_stop, is_new_node}
 use Rattle.records.proofs.KindLaws.{left-child, right_child, rest-branches}
 use Rattle.loads.proofs.Laws.{load-node}
-use borrow.Author.Rules.{rules}
 use native.Mathlib.Omega.{arith}
 use Rattle.loads.proofs.load_of.Goals as goal
 use Rattle.loads.proofs.load_of.Goals.{After-load_at-left, After-load_at-right}

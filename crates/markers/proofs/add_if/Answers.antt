@@ -1,5 +1,4 @@
 -- By the branch it is `add_entry`, or nothing.
-use borrow.Author.Rules.{rules}
 use Rattle.markers.proofs.add_if.Goals as goal
 
 pub add_entry-requires : goal.add_entry-requires

@@ -1,15 +1,8 @@
-use Prim.Native.Nat.{ℕ, ◌-◌, ◌≤◌}
 use mathlib.Core.Path.{◌≡◌, sym, ap, ◌∙◌}
-use mathlib.Core.Bool.{Bool, true, ◌&&◌}
-use mathlib.Core.List.{List}
-use lib.ListN.{get_or}
+use mathlib.Core.Bool.{Bool, ◌&&◌}
 use native.Mathlib.Omega.{arith}
-use borrow.Author.Rules.{rules}
-use borrow.Author.Tests.{not-true, not-false}
 use Rattle.laws.specs.Search.{every}
 use Rattle.laws.proofs.Search.{every-zero, every-pass, false-every}
-use Rattle.model.specs.Tree.{Array}
-use Rattle.model.specs.Numbers.{Entry, no_entry}
 use Rattle.model.specs.Memory.{entries_in, entry_formed, unlike}
 use Rattle.model.proofs.Memory.{entries_at}
 use Rattle.records.specs.Record.{array_of}

@@ -1,15 +1,12 @@
-use Prim.Native.Nat.{◌-◌, ◌≤◌}
 use native.Mathlib.Nat.{not-suc-le-zero}
 use mathlib.Core.Path.{◌≡◌, refl, sym, ap, ◌∙◌}
-use mathlib.Core.Bool.{true, not}
+use mathlib.Core.Bool.{not}
 use lib.ListN.{length}
 use native.Mathlib.Omega.{arith}
-use borrow.Author.Rules.{rules}
-use Rattle.laws.specs.Search.{every}
 use Rattle.laws.proofs.Search.{every-zero, every-pass, false-every}
 use Rattle.marks.proofs.Laws.{mark_if-length}
 use Rattle.model.specs.Memory.{entries_in, unlike}
-use Rattle.markers.specs.Markers.{slot_of, Seen, listed}
+use Rattle.markers.specs.Markers.{slot_of, listed}
 use Rattle.markers.proofs.Laws.{seen_more, unlike-listed}
 use Rattle.markers.proofs.entries_unlike.Goals as goal
 use Rattle.markers.proofs.entries_unlike.Goals.{After-is_listed}

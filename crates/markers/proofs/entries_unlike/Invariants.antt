@@ -1,17 +1,11 @@
 -- `markers::entries_unlike` meets its contract. The loop's invariant: the places of the first k entries are marked, and these are unlike.
 use Prim.Native.Nat.{◌-◌, ◌≤◌}
-use native.Mathlib.Nat.{not-suc-le-zero}
-use mathlib.Core.Path.{◌≡◌, refl, sym, ap, ◌∙◌}
-use mathlib.Core.Bool.{true, not}
+use mathlib.Core.Path.{◌≡◌}
+use mathlib.Core.Bool.{true}
 use lib.ListN.{length}
-use native.Mathlib.Omega.{arith}
-use borrow.Author.Rules.{rules}
 use Rattle.laws.specs.Search.{every}
-use Rattle.laws.proofs.Search.{every-zero, every-pass, false-every}
-use Rattle.marks.proofs.Laws.{mark_if-length}
 use Rattle.model.specs.Memory.{entries_in, unlike}
-use Rattle.markers.specs.Markers.{slot_of, Seen, listed}
-use Rattle.markers.proofs.Laws.{seen_more, unlike-listed}
+use Rattle.markers.specs.Markers.{Seen}
 use Rattle.markers.proofs.entries_unlike.Given as goal
 
 abbrev pub invariant-loop-k : goal.invariant-loop-k

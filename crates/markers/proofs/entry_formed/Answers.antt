@@ -1,6 +1,5 @@
 -- `markers::entry_formed` meets its contract: past the last node there is a stop, which is neither a resource nor an out.
 use mathlib.Core.Path.{ap, ◌∙◌}
-use borrow.Author.Rules.{rules}
 use Rattle.model.specs.Memory.{entry_formed, is_resource, is_out}
 use Rattle.markers.proofs.entry_formed.Goals as goal
 

@@ -1,13 +1,12 @@
-use Prim.Native.Nat.{◌*◌, ◌-◌, ◌≤◌}
+use Prim.Native.Nat.{◌*◌}
 use mathlib.Core.Path.{◌≡◌, sym, ap, ap₂, ◌∙◌}
-use mathlib.Core.Bool.{false, ◌||◌}
+use mathlib.Core.Bool.{◌||◌}
 use lib.ListN.{drop}
 use native.Mathlib.Omega.{arith}
-use borrow.Author.Rules.{rules}
 use Rattle.model.specs.Numbers as N
 use Rattle.model.specs.Numbers.{same_entry}
 use Rattle.model.specs.Memory.{entry_in}
-use Rattle.markers.specs.Markers.{entry_of, listed}
+use Rattle.markers.specs.Markers.{entry_of}
 use Rattle.markers.proofs.Laws.{listed-zero, listed-step, found_here, found_none}
 use Rattle.markers.proofs.find_entry.Goals as goal
 use Rattle.markers.proofs.find_entry.Goals.{After-same}

@@ -1,15 +1,8 @@
 -- `markers::find_entry` meets its contract. The loop's invariant: none of the first k entries equals e.
-use Prim.Native.Nat.{◌*◌, ◌-◌, ◌≤◌}
-use mathlib.Core.Path.{◌≡◌, sym, ap, ap₂, ◌∙◌}
-use mathlib.Core.Bool.{false, ◌||◌}
-use lib.ListN.{drop}
-use native.Mathlib.Omega.{arith}
-use borrow.Author.Rules.{rules}
-use Rattle.model.specs.Numbers as N
-use Rattle.model.specs.Numbers.{same_entry}
-use Rattle.model.specs.Memory.{entry_in}
+use Prim.Native.Nat.{◌-◌, ◌≤◌}
+use mathlib.Core.Path.{◌≡◌}
+use mathlib.Core.Bool.{false}
 use Rattle.markers.specs.Markers.{entry_of, listed}
-use Rattle.markers.proofs.Laws.{listed-zero, listed-step, found_here, found_none}
 use Rattle.markers.proofs.find_entry.Given as goal
 
 abbrev pub invariant-loop-k : goal.invariant-loop-k

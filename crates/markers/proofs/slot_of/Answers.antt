@@ -1,6 +1,5 @@
 -- `markers::slot_of` meets its contract: what it computes is the definition, of numbers that are as they were when they are wider.
 use native.Mathlib.Omega.{arith}
-use borrow.Author.Rules.{rules}
 use Rattle.markers.specs.Markers.{slot_of}
 use Rattle.markers.proofs.slot_of.Goals as goal
 

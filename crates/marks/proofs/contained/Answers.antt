@@ -1,5 +1,4 @@
 -- A row's 256 names are four words of 64.
-use borrow.Author.Rules.{rules}
 use Rattle.marks.proofs.Laws.{inside-words}
 use Rattle.marks.proofs.contained.Goals as goal
 

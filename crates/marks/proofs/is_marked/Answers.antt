@@ -1,5 +1,4 @@
 -- What it computes is the definition, at the word that `index_of` says.
-use borrow.Author.Rules.{rules}
 use Rattle.marks.specs.Marks.{marked}
 use Rattle.marks.proofs.is_marked.Goals as goal
 

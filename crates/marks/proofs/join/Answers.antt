@@ -1,5 +1,4 @@
-use Prim.Native.Nat.{◌≤◌, ◌-◌}
-use Rattle.marks.proofs.Laws.{Joining, join-begun, join_more, join-done}
+use Rattle.marks.proofs.Laws.{join-begun, join_more, join-done}
 use borrow.Author.Rules.{rules}
 use native.Mathlib.Omega.{arith}
 use mathlib.Core.Path.{◌≡◌}

@@ -1,9 +1,6 @@
 -- The words below w are joined, of a copy of row v.
 use Prim.Native.Nat.{◌≤◌, ◌-◌}
-use Rattle.marks.proofs.Laws.{Joining, join-begun, join_more, join-done}
-use borrow.Author.Rules.{rules}
-use native.Mathlib.Omega.{arith}
-use mathlib.Core.Path.{◌≡◌}
+use Rattle.marks.proofs.Laws.{Joining}
 use Rattle.marks.proofs.join.Given as goal
 
 abbrev pub invariant-loop-w : goal.invariant-loop-w

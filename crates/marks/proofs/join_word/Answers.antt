@@ -1,5 +1,4 @@
 -- Both words are read before the one is written.
-use borrow.Author.Rules.{rules}
 use Rattle.marks.proofs.join_word.Goals as goal
 
 pub returns : goal.returns

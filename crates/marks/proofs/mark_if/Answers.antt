@@ -4,7 +4,6 @@ use native.Mathlib.Omega.{arith}
 use mathlib.Core.Path.{ap}
 use lib.Bits.{bit_or}
 use lib.ListN.{get_or, set}
-use borrow.Author.Rules.{rules}
 use Rattle.marks.specs.Marks.{mark_if}
 use Rattle.laws.proofs.Bits.{one_shifted}
 use Rattle.marks.proofs.mark_if.Goals as goal

@@ -1,5 +1,4 @@
 -- Four words of a row are a row.
-use borrow.Author.Rules.{rules}
 use Rattle.marks.proofs.Laws.{row_copied}
 use Rattle.marks.proofs.row_at.Goals as goal
 

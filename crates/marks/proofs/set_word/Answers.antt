@@ -1,5 +1,4 @@
 -- The word stands where `index_of` says.
-use borrow.Author.Rules.{rules}
 use Rattle.marks.proofs.set_word.Goals as goal
 
 pub returns : goal.returns

@@ -1,7 +1,6 @@
 -- Numbers of 64 bits are equal where their bits are, and x & y has the bits of x that are bits of y.
 use native.Mathlib.Omega.{arith}
 use lib.ListN.{get_or}
-use borrow.Author.Rules.{rules}
 use Rattle.laws.proofs.Bits.{and-whole}
 use Rattle.marks.specs.Marks.{word_at, word_inside}
 use Rattle.marks.proofs.word_inside.Goals as goal

@@ -1,7 +1,6 @@
 -- A number is not 0 where some bit is set, and the bits of x & y are those that both have: a word is below 2^64.
 use native.Mathlib.Omega.{arith}
 use lib.ListN.{get_or}
-use borrow.Author.Rules.{rules}
 use Rattle.laws.proofs.Bits.{and-some}
 use Rattle.marks.specs.Marks.{word_at, words_share}
 use Rattle.marks.proofs.words_share.Goals as goal

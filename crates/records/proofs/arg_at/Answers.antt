@@ -3,7 +3,6 @@ use Prim.Native.Nat.{◌+◌, ◌*◌}
 use mathlib.Core.Path.{sym, ◌∙◌}
 use lib.ListN.{drop}
 use lib.Seq.{get_or-take, get_or-drop}
-use borrow.Author.Rules.{rules}
 use Rattle.records.proofs.arg_at.Goals as goal
 
 pub returns : goal.returns

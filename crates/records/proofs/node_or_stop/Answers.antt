@@ -1,5 +1,4 @@
 use mathlib.Core.Path.{sym, ap, ◌∙◌}
-use borrow.Author.Rules.{rules}
 use Rattle.records.specs.Record.{node_of, array_of}
 use Rattle.records.proofs.Laws.{node-of, node-past}
 use Rattle.records.proofs.node_or_stop.Goals as goal

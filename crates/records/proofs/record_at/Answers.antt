@@ -4,7 +4,6 @@ use mathlib.Core.Path.{sym}
 use lib.ListN.{get_or}
 use Rattle.records.proofs.Laws.{bytes_take}
 use native.Mathlib.Omega.{arith}
-use borrow.Author.Rules.{rules}
 use Rattle.records.proofs.record_at.Goals as goal
 
 pub returns : goal.returns

@@ -1,7 +1,6 @@
 -- The three tests, one by one.
 use mathlib.Core.Path.{sym, ◌∙◌}
 use mathlib.Core.Bool.{◌&&◌}
-use borrow.Author.Rules.{rules}
 use Rattle.laws.proofs.Search.{and_split}
 use Rattle.scans.proofs.agent_fits.Goals as goal
 

@@ -1,11 +1,7 @@
 -- The loop's invariant: `found` says whether the first k argument bytes are marked.
 use Prim.Native.Nat.{◌≤◌, ◌-◌}
-use native.Mathlib.Omega.{arith}
-use mathlib.Core.Path.{◌≡◌, sym, ap, ap₂, ◌∙◌}
-use mathlib.Core.Bool.{◌&&◌}
-use borrow.Author.Rules.{rules}
+use mathlib.Core.Path.{◌≡◌}
 use Rattle.laws.specs.Search.{every}
-use Rattle.laws.proofs.Search.{every-zero, every-step}
 use Rattle.marks.specs.Marks.{marked}
 use Rattle.scans.specs.Pass.{arg_at}
 use Rattle.scans.proofs.args_marked.Given as goal

@@ -1,16 +1,10 @@
 -- The loop's invariant: the first k argument bytes are marked.
 use Prim.Native.Nat.{ℕ, ◌≤◌, ◌-◌}
-use native.Mathlib.Omega.{arith}
-use mathlib.Core.Path.{◌≡◌, refl, sym, ap, ap₂, ◌∙◌}
-use mathlib.Core.Bool.{Bool, true, ◌||◌}
-use mathlib.Core.List.{List}
+use mathlib.Core.Path.{◌≡◌}
 use lib.Dec.{eqb}
 use lib.ListN.{length}
-use borrow.Author.Rules.{rules}
 use Rattle.laws.specs.Search.{any}
-use Rattle.laws.proofs.Search.{any-zero, any_step}
 use Rattle.marks.specs.Marks.{marked}
-use Rattle.marks.proofs.Laws.{mark_if-length, marked-none, marked_more}
 use Rattle.scans.specs.Pass.{arg_at}
 use Rattle.scans.proofs.args_row.Given as goal
 

@@ -1,8 +1,6 @@
-use Prim.Native.Nat.{◌≤◌, ◌-◌}
 use native.Mathlib.Omega.{arith}
 use mathlib.Core.Path.{◌≡◌, sym}
 use borrow.Author.Rules.{rules}
-use Rattle.laws.specs.Search.{every}
 use Rattle.laws.proofs.Search.{every-zero, every-step}
 use Rattle.scans.specs.Pass.{count_fits}
 use Rattle.scans.proofs.bound_once.Goals as goal

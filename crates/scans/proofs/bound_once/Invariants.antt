@@ -1,10 +1,7 @@
 -- The loop's flag says of the names passed that each of them is counted as it should be.
 use Prim.Native.Nat.{◌≤◌, ◌-◌}
-use native.Mathlib.Omega.{arith}
-use mathlib.Core.Path.{◌≡◌, sym}
-use borrow.Author.Rules.{rules}
+use mathlib.Core.Path.{◌≡◌}
 use Rattle.laws.specs.Search.{every}
-use Rattle.laws.proofs.Search.{every-zero, every-step}
 use Rattle.scans.specs.Pass.{count_fits}
 use Rattle.scans.proofs.bound_once.Given as goal
 

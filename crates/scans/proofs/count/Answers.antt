@@ -1,5 +1,4 @@
 -- One entry is counted up.
-use borrow.Author.Rules.{rules}
 use Rattle.counts.proofs.Laws.{grown-set}
 use Rattle.scans.proofs.count.Goals as goal
 

@@ -1,13 +1,8 @@
-use Prim.Native.Nat.{ℕ, ◌≤◌, ◌-◌}
 use native.Mathlib.Omega.{arith}
 use mathlib.Core.Path.{◌≡◌}
-use mathlib.Core.List.{List}
-use lib.Dec.{eqb}
 use borrow.Author.Rules.{rules}
-use Rattle.laws.specs.Lists.{one}
 use Rattle.laws.proofs.Lists.{one-le}
-use Rattle.counts.proofs.Laws.{Counted, counted_none, counted-more, counted-below}
-use Rattle.scans.specs.Pass.{arg_at}
+use Rattle.counts.proofs.Laws.{counted_none, counted-more, counted-below}
 use Rattle.scans.proofs.count_args.Goals as goal
 use Rattle.scans.proofs.count_args.Invariants.{adds}
 

@@ -1,6 +1,5 @@
 -- One entry is counted up, where a byte holds one more.
 use mathlib.Core.Bool.{false≢true}
-use borrow.Author.Rules.{rules}
 use Rattle.counts.proofs.Laws.{grown-set}
 use Rattle.scans.proofs.count_field.Goals as goal
 

@@ -3,8 +3,6 @@ use Prim.Native.Nat.{◌+◌, ◌*◌}
 use native.Mathlib.Omega.{arith}
 use mathlib.Core.Path.{◌≡◌, refl, sym, ◌∙◌}
 use mathlib.Core.Bool.{true, false≢true}
-use borrow.Author.Rules.{rules}
-use borrow.Author.Tests.{not-false}
 use Rattle.marks.specs.Marks.{marked}
 use Rattle.records.proofs.KindLaws.{agent-continues}
 use Rattle.scans.specs.Pass.{record_fits, RestZero}

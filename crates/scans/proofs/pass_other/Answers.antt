@@ -3,8 +3,6 @@ use Prim.Native.Nat.{◌+◌, ◌*◌, zero-le}
 use native.Mathlib.Omega.{arith}
 use mathlib.Core.Path.{◌≡◌, refl, sym, ◌∙◌}
 use mathlib.Core.Bool.{true, false, false≢true}
-use borrow.Author.Rules.{rules}
-use borrow.Author.Tests.{not-false}
 use Rattle.laws.proofs.Search.{and_split}
 use Rattle.records.specs.Record.{node_of}
 use Rattle.records.specs.Kinds.{is_stop, is_new_node}

@@ -1,5 +1,4 @@
 -- The test is the definition's, by what the calls answer.
-use borrow.Author.Rules.{rules}
 use Rattle.scans.proofs.record_fits.Goals as goal
 
 pub returns : goal.returns

@@ -2,7 +2,6 @@
 use Prim.Native.Nat.{◌/◌, ◌*◌, ◌^◌}
 use native.Mathlib.Omega.{arith}
 use mathlib.Core.Path.{sym, ap, ◌∙◌}
-use borrow.Author.Rules.{rules}
 use borrow.Author.Tests.{eqb-true}
 use Rattle.scans.proofs.Args.{high_zero}
 use Rattle.scans.proofs.rest_zero.Goals as goal

@@ -1,11 +1,8 @@
-use Prim.Native.Nat.{◌≤◌, ◌-◌}
 use native.Mathlib.Omega.{arith}
 use mathlib.Core.Path.{◌≡◌, sym, ap, ◌∙◌}
 use mathlib.Core.Bool.{false≢true}
 use lib.ListN.{length}
-use borrow.Author.Rules.{rules}
-use borrow.Author.Tests.{not-false}
-use Rattle.scans.proofs.Laws.{blank-length, wide, Scanned, scanned-start, scanned-ready, scanned-step, scanned-clear}
+use Rattle.scans.proofs.Laws.{blank-length, wide, scanned-start, scanned-ready, scanned-step, scanned-clear}
 use Rattle.scans.proofs.scan.Goals as goal
 
 pub loop-i-init : goal.loop-i-init

@@ -1,15 +1,11 @@
 -- `scopes::args_marked` meets its contract. The loop's invariant: `found` says whether the first k arguments are marked.
 use Prim.Native.Nat.{ℕ, ◌≤◌, ◌-◌}
-use native.Mathlib.Omega.{arith}
-use mathlib.Core.Path.{◌≡◌, sym, ap, ap₂, ◌∙◌}
-use mathlib.Core.Bool.{Bool, ◌&&◌, ◌||◌}
+use mathlib.Core.Path.{◌≡◌}
+use mathlib.Core.Bool.{Bool, ◌||◌}
 use mathlib.Core.List.{List}
 use lib.Dec.{leb}
-use lib.ListN.{length, get_or}
-use borrow.Author.Rules.{rules}
+use lib.ListN.{get_or}
 use Rattle.laws.specs.Search.{every}
-use Rattle.laws.proofs.Search.{every-zero, every-step}
-use Rattle.laws.proofs.Lists.{all_take}
 use Rattle.records.specs.declared.Record.{Record}
 use Rattle.marks.specs.Marks.{marked}
 use Rattle.scopes.proofs.args_marked.Given as goal

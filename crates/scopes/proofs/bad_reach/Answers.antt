@@ -1,15 +1,10 @@
-use Prim.Native.Nat.{ℕ, ◌+◌, ◌*◌, ◌≤◌, ◌-◌}
+use Prim.Native.Nat.{ℕ, ◌+◌, ◌*◌}
 use native.Mathlib.Omega.{arith}
 use mathlib.Core.Path.{◌≡◌, refl, sym, ap, ◌∙◌}
-use mathlib.Core.Bool.{Bool}
 use lib.ListN.{length}
-use borrow.Author.Rules.{rules}
-use borrow.Author.Tests.{not-true, not-false}
-use Rattle.laws.specs.Search.{Found, clear, first}
-use Rattle.laws.specs.Lists.{all}
+use Rattle.laws.specs.Search.{first}
 use Rattle.laws.proofs.Search.{first-zero, first-pass, first-here, clear-test, hit-test}
-use Rattle.model.specs.Tree.{Array, node_at}
-use Rattle.model.specs.Formed.{Refusal, refuse, uses, in_reach, refusal12}
+use Rattle.model.specs.Formed.{refusal12}
 use Rattle.records.specs.Record.{array_of}
 use Rattle.scopes.proofs.Table.{uses-reached}
 use Rattle.scopes.proofs.bad_reach.Goals as goal
@@ -30,9 +25,9 @@ tested c =
 
 pub fill_scopes-requires : goal.fill_scopes-requires
 fill_scopes-requires c = record {
-      records_fit = (c.requires.records_fit.0, c.requires.records_fit.1, refl);
-      t_value = c.requires.t_value;
-    }
+  records_fit = (c.requires.records_fit.0, c.requires.records_fit.1, refl);
+  t_value = c.requires.t_value;
+}
 
 pub loop-i-init : goal.loop-i-init
 loop-i-init c = (omega arith, first-zero _)

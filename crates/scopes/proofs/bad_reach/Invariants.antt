@@ -1,19 +1,13 @@
 -- `scopes::bad_reach` meets its contract. The loop's invariant: refusal 12 finds nothing at the nodes passed.
 -- What the table's marks answer for a node is what the definition asks there (`tested`).
-use Prim.Native.Nat.{ℕ, ◌+◌, ◌*◌, ◌≤◌, ◌-◌}
-use native.Mathlib.Omega.{arith}
-use mathlib.Core.Path.{◌≡◌, refl, sym, ap, ◌∙◌}
+use Prim.Native.Nat.{ℕ, ◌≤◌, ◌-◌}
+use mathlib.Core.Path.{◌≡◌}
 use mathlib.Core.Bool.{Bool}
-use lib.ListN.{length}
-use borrow.Author.Rules.{rules}
-use borrow.Author.Tests.{not-true, not-false}
 use Rattle.laws.specs.Search.{Found, clear, first}
 use Rattle.laws.specs.Lists.{all}
-use Rattle.laws.proofs.Search.{first-zero, first-pass, first-here, clear-test, hit-test}
 use Rattle.model.specs.Tree.{Array, node_at}
-use Rattle.model.specs.Formed.{Refusal, refuse, uses, in_reach, refusal12}
+use Rattle.model.specs.Formed.{Refusal, refuse, uses, in_reach}
 use Rattle.records.specs.Record.{array_of}
-use Rattle.scopes.proofs.Table.{uses-reached}
 use Rattle.scopes.proofs.bad_reach.Given as goal
 
 -- what refusal 12 asks of node i

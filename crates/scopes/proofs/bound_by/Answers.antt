@@ -7,7 +7,6 @@ use lib.Dec.{eqb}
 use lib.ListN.{replicate}
 use Rattle.records.specs.Record.{node_of}
 use Rattle.records.specs.Kinds.{is_new_node}
-use borrow.Author.Rules.{rules}
 use Rattle.marks.specs.Marks.{marked}
 use Rattle.marks.proofs.Laws.{marked-none, marked_more}
 use Rattle.scopes.specs.Scope.{is_param}

@@ -1,12 +1,11 @@
-use Prim.Native.Nat.{◌+◌, ◌*◌, ◌≤◌, ◌-◌}
+use Prim.Native.Nat.{◌+◌, ◌*◌}
 use native.Mathlib.Omega.{arith}
-use mathlib.Core.Path.{◌≡◌, sym, ap, ◌∙◌}
+use mathlib.Core.Path.{sym, ap, ◌∙◌}
 use lib.ListN.{length}
-use borrow.Author.Rules.{rules}
 use Rattle.records.specs.Record.{array_of}
 use Rattle.model.proofs.Tree.{child-above}
 use Rattle.records.proofs.Laws.{node-read}
-use Rattle.scopes.proofs.Table.{Filled, filled-start, filled-step, filled-all}
+use Rattle.scopes.proofs.Table.{filled-start, filled-step, filled-all}
 use Rattle.scopes.proofs.fill_scopes.Goals as goal
 
 pub loop-j-init : goal.loop-j-init

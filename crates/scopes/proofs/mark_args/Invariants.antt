@@ -1,17 +1,11 @@
 -- `scopes::mark_args` meets its contract. The loop's invariant: the row has the marks it came with and, where `on` is true, those of the first k arguments.
 use Prim.Native.Nat.{ℕ, ◌≤◌, ◌<◌, ◌-◌}
-use native.Mathlib.Omega.{arith}
-use mathlib.Core.Path.{◌≡◌, sym, ap, ap₂, ◌∙◌}
-use mathlib.Core.Bool.{Bool, ◌&&◌, ◌||◌, or-false, or_assoc}
-use mathlib.Core.List.{List}
-use lib.Dec.{eqb, ltb}
+use mathlib.Core.Path.{◌≡◌}
+use mathlib.Core.Bool.{◌||◌}
 use lib.ListN.{length}
-use borrow.Author.Rules.{rules}
 use Rattle.laws.specs.Search.{any}
-use Rattle.laws.proofs.Search.{any-zero, any_step}
 use Rattle.marks.specs.Marks.{marked}
-use Rattle.marks.proofs.Laws.{mark_if-length, marked_more}
-use Rattle.scopes.proofs.Laws.{arg_at, args-found}
+use Rattle.scopes.proofs.Laws.{arg_at}
 use Rattle.scopes.proofs.mark_args.Given as goal
 
 abbrev pub invariant-loop-k : goal.invariant-loop-k

@@ -2,7 +2,6 @@
 -- since a child lies above its parent.
 use mathlib.Core.Path.{sym, ◌∙◌}
 use native.Mathlib.Omega.{arith}
-use borrow.Author.Rules.{rules}
 use Rattle.scopes.proofs.Table.{left-fits, right-fits, handed-down}
 use Rattle.scopes.proofs.pass_children.Goals as goal
 

@@ -1,14 +1,8 @@
 -- `scopes::pass_down` meets its contract. The loop's invariant: the table is the one passed in with the first w words written.
-use Prim.Native.Nat.{ℕ, ◌≤◌, ◌-◌}
-use native.Mathlib.Omega.{arith}
-use mathlib.Core.Path.{◌≡◌, refl, sym, ap, ap₂, ◌∙◌}
-use mathlib.Core.List.{List}
-use lib.Bits.{bit_or}
-use lib.ListN.{length, get_or, set, length-set}
-use borrow.Author.Rules.{rules}
-use Rattle.marks.specs.Marks.{word_at}
+use Prim.Native.Nat.{◌≤◌, ◌-◌}
+use mathlib.Core.Path.{◌≡◌}
+use lib.ListN.{length}
 use Rattle.scopes.specs.Scope.{passed}
-use Rattle.scopes.proofs.Table.{passed-step}
 use Rattle.scopes.proofs.pass_down.Given as goal
 
 abbrev pub invariant-loop-w : goal.invariant-loop-w

@@ -1,5 +1,4 @@
 -- `scopes::pass_if` meets its contract: by the branch it is `pass_down`, or nothing.
-use borrow.Author.Rules.{rules}
 use Rattle.scopes.specs.Scope.{pass_if}
 use Rattle.scopes.proofs.pass_if.Goals as goal
 

@@ -1,11 +1,8 @@
-use Prim.Native.Nat.{ℕ, ◌≤◌, ◌-◌}
+use Prim.Native.Nat.{ℕ, ◌≤◌}
 use mathlib.Core.Path.{◌≡◌, sym, ap, ap₂, ◌∙◌, subst}
 use mathlib.Core.Bool.{Bool, ◌&&◌, ◌||◌}
 use lib.Dec.{eqb}
-use borrow.Author.Tests.{not-true, not-false}
-use Rattle.laws.specs.Search.{first, clear}
 use Rattle.laws.proofs.Search.{clear-test, hit-test, first-zero, first-pass, first-here, every-same}
-use Rattle.model.specs.Formed.{refuse}
 use Rattle.records.specs.Record.{array_of}
 use Rattle.layout.specs.Table.{balance_at, weight_at, weights_fit, padding_fits, refusal20}
 use Rattle.layout.proofs.Laws.{balance-fits}

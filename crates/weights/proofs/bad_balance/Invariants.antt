@@ -1,17 +1,11 @@
 -- Without a balance nothing is searched. The loop's invariant: no balance passed is refused. The first balance that fails its test is the lowest.
-use Prim.Native.Nat.{ℕ, ◌≤◌, ◌-◌}
-use mathlib.Core.Path.{◌≡◌, sym, ap, ap₂, ◌∙◌, subst}
-use mathlib.Core.Bool.{Bool, ◌&&◌, ◌||◌}
-use lib.Dec.{eqb}
-use borrow.Author.Tests.{not-true, not-false}
+use Prim.Native.Nat.{◌≤◌, ◌-◌}
+use mathlib.Core.Path.{◌≡◌}
+use mathlib.Core.Bool.{◌&&◌}
 use Rattle.laws.specs.Search.{first, clear}
-use Rattle.laws.proofs.Search.{clear-test, hit-test, first-zero, first-pass, first-here, every-same}
 use Rattle.model.specs.Formed.{refuse}
 use Rattle.records.specs.Record.{array_of}
-use Rattle.layout.specs.Table.{balance_at, weight_at, weights_fit, padding_fits, refusal20}
-use Rattle.layout.proofs.Laws.{balance-fits}
-use borrow.Author.Rules.{rules}
-use native.Mathlib.Omega.{arith}
+use Rattle.layout.specs.Table.{balance_at, weights_fit, padding_fits}
 use Rattle.weights.proofs.bad_balance.Given as goal
 
 abbrev pub invariant-loop-k : goal.invariant-loop-k

@@ -1,14 +1,10 @@
 -- The nodes below i are marked.
 use Prim.Native.Nat.{ℕ, ◌≤◌, ◌<◌, ◌-◌}
-use mathlib.Core.Path.{◌≡◌, refl, ap, ◌∙◌}
+use mathlib.Core.Path.{◌≡◌}
 use mathlib.Core.Bool.{false}
-use lib.ListN.{length, get_or, set, length-set}
-use lib.Seq.{get_or-set_same, get_or-set_other}
-use borrow.Author.Count.{below_more}
+use lib.ListN.{length, get_or}
 use Rattle.model.specs.Tree.{node_at, is_agent}
 use Rattle.records.specs.Record.{array_of}
-use borrow.Author.Rules.{rules}
-use native.Mathlib.Omega.{arith}
 use Rattle.weights.proofs.mark_agents.Given as goal
 
 abbrev pub invariant-loop-i : goal.invariant-loop-i

@@ -1,5 +1,4 @@
 -- The test of M's parity chooses the side of the definition's test.
-use borrow.Author.Rules.{rules}
 use borrow.Author.Tests.{eq-eqb, ne_eqb}
 use Rattle.weights.proofs.padding_fits.Goals as goal
 

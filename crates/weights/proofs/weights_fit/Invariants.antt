@@ -1,14 +1,11 @@
 -- The loop's flag says of the nodes passed that each of them is marked or has no weight.
 use Prim.Native.Nat.{◌≤◌, ◌-◌}
-use mathlib.Core.Path.{◌≡◌, sym}
+use mathlib.Core.Path.{◌≡◌}
 use mathlib.Core.Bool.{false, ◌||◌}
 use lib.Dec.{eqb}
 use lib.ListN.{get_or}
 use Rattle.laws.specs.Search.{every}
-use Rattle.laws.proofs.Search.{every-zero, every-step}
 use Rattle.layout.specs.Table.{weight_at}
-use borrow.Author.Rules.{rules}
-use native.Mathlib.Omega.{arith}
 use Rattle.weights.proofs.weights_fit.Given as goal
 
 abbrev pub invariant-loop-i : goal.invariant-loop-i

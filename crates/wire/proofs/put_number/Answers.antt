@@ -1,6 +1,5 @@
 -- Two bytes written one after the other are written at once.
 use Rattle.laws.proofs.Put.{put_two}
-use Rattle.std.proofs.Common.{rules}
 use Rattle.wire.proofs.put_number.Goals as goal
 
 pub returns : goal.returns

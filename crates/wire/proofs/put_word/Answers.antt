@@ -1,5 +1,5 @@
 -- Four bytes written one after the other are written at once.
-use Rattle.std.proofs.Common.{arith, length-set, rules}
+use Rattle.std.proofs.Common.{arith, length-set}
 use Rattle.laws.proofs.Put.{put_four}
 use Rattle.wire.proofs.put_word.Goals as goal
 

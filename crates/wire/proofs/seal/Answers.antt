@@ -1,5 +1,5 @@
 -- The letters stand right behind the sum.
-use Rattle.std.proofs.Common.{ℕ, ◌+◌, ◌/◌, ap, ◌∙◌, arith, rules}
+use Rattle.std.proofs.Common.{ℕ, ◌+◌, ◌/◌, ap, ◌∙◌, arith}
 use Rattle.laws.specs.Lists.{put}
 use Rattle.laws.proofs.Put.{put-put}
 use Rattle.wire.specs.Numbers.{word_sum, le32}

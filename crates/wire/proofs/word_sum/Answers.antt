@@ -1,4 +1,4 @@
-use Rattle.std.proofs.Common.{◌≡◌, ◌-◌, ◌≤◌, refl, ap, ◌∙◌, arith, rules}
+use Rattle.std.proofs.Common.{◌≡◌, refl, ap, ◌∙◌, arith, rules}
 use Rattle.wire.specs.Numbers.{word_sum}
 use Rattle.wire.proofs.Laws.{word_sum-step}
 use Rattle.wire.proofs.word_sum.Goals as goal

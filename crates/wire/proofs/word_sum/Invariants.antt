@@ -1,7 +1,6 @@
 -- The loop's invariant: the sum so far is that of the first i words.
-use Rattle.std.proofs.Common.{◌≡◌, ◌-◌, ◌≤◌, refl, ap, ◌∙◌, arith, rules}
+use Rattle.std.proofs.Common.{◌≡◌, ◌-◌, ◌≤◌}
 use Rattle.wire.specs.Numbers.{word_sum}
-use Rattle.wire.proofs.Laws.{word_sum-step}
 use Rattle.wire.proofs.word_sum.Given as goal
 
 abbrev pub invariant-loop-i : goal.invariant-loop-i
