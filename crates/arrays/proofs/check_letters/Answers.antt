@@ -1,9 +1,8 @@
 -- Refusals 2 and 3 by their tests, then the rest.
-use borrow.Author.Tests.{eq-eqb, ne_eqb, not-true, not-false}
+use borrow.Author.Tests.{eq-eqb, ne_eqb}
 use Rattle.arrays.proofs.Laws.{counts-fit}
 use Rattle.records.proofs.Checks.{fails, holds}
 use native.Mathlib.Omega.{arith}
-use borrow.Author.Rules.{rules}
 use Rattle.arrays.proofs.check_letters.Goals as goal
 
 pub returns-then-t-ne1 : goal.returns-then-t-ne1

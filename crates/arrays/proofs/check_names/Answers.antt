@@ -2,7 +2,6 @@
 use mathlib.Core.Path.{◌∙◌}
 use Rattle.records.proofs.Checks.{refuses, goes_on, passes}
 use Rattle.fields.proofs.Laws.{first-bad-10}
-use borrow.Author.Rules.{rules}
 use Rattle.arrays.proofs.check_names.Goals as goal
 
 pub returns-in-Refused : goal.returns-in-Refused

@@ -2,7 +2,6 @@
 use mathlib.Core.Path.{sym, ◌∙◌}
 use Rattle.records.proofs.Checks.{refuses, goes_on, passes}
 use Rattle.fields.proofs.Laws.{first-bad-6, first-bad-7}
-use borrow.Author.Rules.{rules}
 use Rattle.arrays.proofs.check_records.Goals as goal
 
 pub returns-then-passes : goal.returns-then-passes

@@ -1,10 +1,9 @@
 -- Refusals 4 and 5 by their tests, then the rest.
 use mathlib.Core.Path.{sym, ◌∙◌}
-use borrow.Author.Tests.{eq-eqb, ne_eqb, not-true, not-false}
+use borrow.Author.Tests.{eq-eqb, ne_eqb}
 use Rattle.arrays.proofs.Laws.{start_fits_lem}
 use Rattle.records.proofs.Checks.{fails, holds}
 use native.Mathlib.Omega.{arith}
-use borrow.Author.Rules.{rules}
 use Rattle.arrays.proofs.check_sum.Goals as goal
 
 pub returns-then-not-t-len : goal.returns-then-not-t-len

@@ -26,12 +26,12 @@ check_names-requires c =
       records_fit = search rules;
       names_bound = search rules;
       t_value = (
-          passes c.first_bad.result
-              (c.first_bad.ensures ∙ first-bad-8 x.file.now x.t)
-              c.in_default.is,
-          passes c.bad_parent.result c.bad_parent.ensures
-              c.in_default-bad_parent.is,
-        );
+        passes c.first_bad.result
+            (c.first_bad.ensures ∙ first-bad-8 x.file.now x.t)
+            c.in_default.is,
+        passes c.bad_parent.result c.bad_parent.ensures
+            c.in_default-bad_parent.is,
+      );
     }
 
 pub returns : goal.returns

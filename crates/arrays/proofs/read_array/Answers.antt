@@ -1,11 +1,9 @@
 -- Refusal 1 by its test, then the rest of the search over the trailer that was read.
 use mathlib.Core.Path.{sym, ap, ◌∙◌}
-use borrow.Author.Tests.{not-true, not-false}
 use Rattle.laws.proofs.Search.{hit-test, hit-and_then}
 use Rattle.records.specs.Record.{found_of}
 use Rattle.arrays.specs.File.{trailer_answer, read_array, trailer_of}
 use Rattle.arrays.proofs.Laws.{length-fits, answered-by}
-use borrow.Author.Rules.{rules}
 use Rattle.arrays.proofs.read_array.Goals as goal
 
 pub returns-then-not-len : goal.returns-then-not-len

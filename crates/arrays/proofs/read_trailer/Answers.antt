@@ -1,5 +1,4 @@
 -- Field by field, what each read ensures.
-use borrow.Author.Rules.{rules}
 use Rattle.arrays.proofs.read_trailer.Goals as goal
 
 pub returns : goal.returns

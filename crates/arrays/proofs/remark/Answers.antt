@@ -5,7 +5,6 @@ use Rattle.arrays.specs.declared.ArrayAnswer.TheVariants.{Read}
 use Rattle.arrays.specs.File.{remark_in, read_array}
 use Rattle.arrays.proofs.Laws.{read_is}
 use native.Mathlib.Omega.{arith}
-use borrow.Author.Rules.{rules}
 use Rattle.arrays.proofs.remark.Goals as goal
 
 pub slice_bounds-result-end : goal.slice_bounds-result-end

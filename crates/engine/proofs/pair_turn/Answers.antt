@@ -1,6 +1,5 @@
 -- The agents are read before the step; what `fire` leaves is what the turn leaves.
 use native.Mathlib.Omega.{arith}
-use borrow.Author.Rules.{rules}
 use Rattle.steps.specs.Steps.{Lies}
 use Rattle.steps.proofs.Laws.{lies}
 use Rattle.engine.proofs.Laws.{turn_stopped, turn-made}

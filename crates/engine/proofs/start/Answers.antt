@@ -1,6 +1,5 @@
 -- The free names are worked out; the room for an environment holds nothing.
 use mathlib.Core.Path.{sym}
-use borrow.Author.Rules.{rules}
 use Rattle.engine.proofs.Begun.{names-bare, names-room}
 use Rattle.engine.proofs.start.Goals as goal
 

@@ -4,8 +4,6 @@ use native.Mathlib.Omega.{arith}
 use mathlib.Core.Path.{◌≡◌, refl, sym, ap, ◌∙◌}
 use mathlib.Core.List.{List}
 use lib.ListN.{length, replicate, length-replicate}
-use borrow.Author.Rules.{rules}
-use borrow.Author.Tests.{not-true, not-false}
 use Rattle.unfolds.specs.Unfold.{Unfolds, unfolded}
 use Rattle.engine.proofs.Begun.{start-many, start-made}
 use Rattle.engine.proofs.start_with.Goals as goal

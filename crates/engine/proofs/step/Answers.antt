@@ -1,8 +1,6 @@
 -- The free names are worked out, the lists are checked against them, and what is well formed takes its step.
 use mathlib.Core.Path.{◌≡◌, refl, sym, ◌∙◌}
 use mathlib.Core.Bool.{true}
-use borrow.Author.Rules.{rules}
-use borrow.Author.Tests.{not-true, not-false}
 use Rattle.model.specs.Memory.{formed}
 use Rattle.records.specs.Record.{array_of}
 use Rattle.unfolds.specs.Unfold.{Prepared}
@@ -23,9 +21,9 @@ returns-then-not-lists_formed c = ((checked-23 _ _ _ (sym c.lists_formed.ensures
 
 pub step_formed-requires : goal.step_formed-requires
 step_formed-requires c = record {
-      prepared = prepared (goal.at.step_formed-requires c).After-lists_formed;
-      counts_value = passes (goal.at.step_formed-requires c).Else-not-lists_formed;
-    }
+  prepared = prepared (goal.at.step_formed-requires c).After-lists_formed;
+  counts_value = passes (goal.at.step_formed-requires c).Else-not-lists_formed;
+}
 
 pub returns : goal.returns
 returns c =

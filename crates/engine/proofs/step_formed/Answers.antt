@@ -2,7 +2,6 @@
 use Prim.Native.Nat.{ℕ, ◌<◌}
 use native.Mathlib.Omega.{arith}
 use mathlib.Core.Path.{refl, ◌∙◌}
-use borrow.Author.Rules.{rules}
 use Rattle.model.proofs.Memory.{slot}
 use Rattle.ready.specs.Ready.{Acts}
 use Rattle.steps.proofs.Laws.{fit, agent-at}

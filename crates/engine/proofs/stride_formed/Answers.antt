@@ -1,7 +1,6 @@
 -- The first ready pair decides: none is quiet; one with no step left is spent; else its turn.
 use native.Mathlib.Omega.{arith}
 use mathlib.Core.Path.{refl}
-use borrow.Author.Rules.{rules}
 use Rattle.model.specs.Calculus.{choices_of}
 use Rattle.steps.proofs.Laws.{fit, agent-at}
 use Rattle.engine.proofs.Laws.{stride-quiet, stride-spent, stride-turn, pair-ready}

@@ -2,9 +2,6 @@ use Prim.Native.Nat.{ℕ, ◌+◌, ◌-◌, ◌≤◌, ◌<◌}
 use native.Mathlib.Nat.{sub_self}
 use native.Mathlib.Omega.{arith}
 use mathlib.Core.Path.{◌≡◌, refl, sym, ap, ◌∙◌, subst}
-use mathlib.Core.Bool.{true}
-use lib.ListN.{length}
-use borrow.Author.Rules.{rules}
 use Rattle.model.specs.Calculus.{choices_of}
 use Rattle.model.specs.Memory.{formed, walk_in}
 use Rattle.records.specs.Record.{array_of}
@@ -37,9 +34,9 @@ loop-ending-init c =
 
 pub stride_formed-stride-requires : goal.stride_formed-stride-requires
 stride_formed-stride-requires c = record {
-      prepared = c.requires.prepared;
-      counts_value = c.loop-ending.invariant.2;
-    }
+  prepared = c.requires.prepared;
+  counts_value = c.loop-ending.invariant.2;
+}
 
 pub returns-in-Ended : goal.returns-in-Ended
 returns-in-Ended c =

@@ -1,18 +1,13 @@
 -- The loop's invariant: the lists are well formed, and the whole walk is what is left of it with the steps made so far added.
-use Prim.Native.Nat.{ℕ, ◌+◌, ◌-◌, ◌≤◌, ◌<◌}
-use native.Mathlib.Nat.{sub_self}
-use native.Mathlib.Omega.{arith}
-use mathlib.Core.Path.{◌≡◌, refl, sym, ap, ◌∙◌, subst}
+use Prim.Native.Nat.{◌-◌, ◌≤◌}
+use mathlib.Core.Path.{◌≡◌}
 use mathlib.Core.Bool.{true}
 use lib.ListN.{length}
-use borrow.Author.Rules.{rules}
 use Rattle.model.specs.Calculus.{choices_of}
 use Rattle.model.specs.Memory.{formed, walk_in}
 use Rattle.records.specs.Record.{array_of}
 use Rattle.lent.specs.Lent.{lent_of}
-use Rattle.engine.specs.declared.Allowance.{Allowance}
 use Rattle.engine.specs.Engine.{added}
-use Rattle.engine.proofs.Laws.{none-added, walk_ends, walk-allowance, walk-allowed, walk-formed, walk-goes}
 use Rattle.engine.proofs.walk_formed.Given as goal
 
 abbrev pub invariant-loop-ending : goal.invariant-loop-ending

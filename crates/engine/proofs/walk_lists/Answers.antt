@@ -1,8 +1,6 @@
 -- The free names are worked out, the lists are checked against them, and what is well formed is walked.
 use mathlib.Core.Path.{◌≡◌, refl, sym, ◌∙◌}
 use mathlib.Core.Bool.{true}
-use borrow.Author.Rules.{rules}
-use borrow.Author.Tests.{not-true, not-false}
 use Rattle.model.specs.Memory.{formed}
 use Rattle.records.specs.Record.{array_of}
 use Rattle.unfolds.specs.Unfold.{Prepared}
@@ -22,9 +20,9 @@ returns-then-not-lists_formed c = (refl, sym c.lists_formed.ensures.1 ∙ c.if-n
 
 pub walk_formed-requires : goal.walk_formed-requires
 walk_formed-requires c = record {
-      prepared = prepared (goal.at.walk_formed-requires c).After-lists_formed;
-      counts_value = passes (goal.at.walk_formed-requires c).Else-not-lists_formed;
-    }
+  prepared = prepared (goal.at.walk_formed-requires c).After-lists_formed;
+  counts_value = passes (goal.at.walk_formed-requires c).Else-not-lists_formed;
+}
 
 pub returns : goal.returns
 returns c = (passes (goal.at.returns c).Else-not-lists_formed, c.walk_formed.ensures)

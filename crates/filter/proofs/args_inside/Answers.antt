@@ -1,7 +1,6 @@
-use Prim.Native.Nat.{◌≤◌, ◌<◌, ◌-◌}
+use Prim.Native.Nat.{◌<◌, ◌-◌}
 use mathlib.Core.Path.{◌≡◌, sym}
 use lib.ListN.{get_or}
-use Rattle.laws.specs.Search.{every}
 use Rattle.laws.proofs.Search.{every-zero, every-step}
 use Rattle.marks.specs.Marks.{HasRow}
 use Rattle.senders.specs.Sets.{sent_row}

@@ -4,7 +4,6 @@ use mathlib.Core.Bool.{Bool}
 use Rattle.laws.specs.Search.{every}
 use Rattle.filter.specs.Filter.{need_met}
 use borrow.Author.Tests.{eq-eqb, ne_eqb}
-use borrow.Author.Rules.{rules}
 use Rattle.filter.proofs.figures_pass.Goals as goal
 
 pub args_inside-requires : goal.args_inside-requires

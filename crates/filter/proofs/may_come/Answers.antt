@@ -1,7 +1,5 @@
 -- The arity is looked at first, and then the rows.
 use mathlib.Core.Path.{◌≡◌, sym, ◌∙◌}
-use borrow.Author.Tests.{not-true, not-false}
-use borrow.Author.Rules.{rules}
 use Rattle.marks.specs.Marks.{marked}
 use Rattle.senders.specs.Sets.{arity_mark}
 use Rattle.filter.proofs.may_come.Goals as goal

@@ -1,14 +1,12 @@
 use Prim.Native.Nat.{◌-◌, ◌<◌}
 use mathlib.Core.Path.{◌≡◌, refl, sym, ◌∙◌}
 use mathlib.Core.Bool.{true≢false}
-use borrow.Author.Rules.{rules}
 use native.Mathlib.Omega.{arith}
 use Rattle.arrays.proofs.Agents.{left_below}
-use Rattle.pairs.specs.declared.Side.{Side}
-use Rattle.pairs.specs.Pairs.{Setting, Held, setting, DifferencesOf}
+use Rattle.pairs.specs.Pairs.{Held, setting}
 use Rattle.pairs.proofs.Laws.{agent-p, name-row}
 use Rattle.pairs.proofs.ByDifference.{rooms-there, figures-there, breaks-by}
-use Rattle.filter.proofs.Members.{AtMember, members-begun, members-more, members-done}
+use Rattle.filter.proofs.Members.{members-begun, members-more, members-done}
 use Rattle.filter.proofs.members_pass.Goals as goal
 use Rattle.filter.proofs.members_pass.Goals.{After-node_at}
 
@@ -26,16 +24,15 @@ differences-requires c =
     }
 
 pub loop-next-init : goal.loop-next-init
-loop-next-init c =
-    (
-      rw (c.number_index-next.ensures.0, c.last_link.ensures)
-          (members-begun c.args.rule (let x = c.args in setting x.file.now x.t x.balances x.rows.now x.loads.now x.bounds.now) c.args.p c.args.g c.args.links.now),
-      record {
-        many_gives = c.differences.auto.gives;
-        many_rooms = c.differences.auto.rooms;
-        are = c.differences.ensures;
-      },
-    )
+loop-next-init c = (
+  rw (c.number_index-next.ensures.0, c.last_link.ensures)
+      (members-begun c.args.rule (let x = c.args in setting x.file.now x.t x.balances x.rows.now x.loads.now x.bounds.now) c.args.p c.args.g c.args.links.now),
+  record {
+    many_gives = c.differences.auto.gives;
+    many_rooms = c.differences.auto.rooms;
+    are = c.differences.ensures;
+  },
+)
 
 pub returns-then-end-j : goal.returns-then-end-j
 returns-then-end-j c e = absurd (true≢false (sym e))

@@ -1,15 +1,7 @@
 -- The senders of the set from the next one on break nothing; each link leads down, or the search ends. The differences are those of p.
-use Prim.Native.Nat.{◌-◌, ◌<◌}
-use mathlib.Core.Path.{◌≡◌, refl, sym, ◌∙◌}
-use mathlib.Core.Bool.{true≢false}
-use borrow.Author.Rules.{rules}
-use native.Mathlib.Omega.{arith}
-use Rattle.arrays.proofs.Agents.{left_below}
-use Rattle.pairs.specs.declared.Side.{Side}
-use Rattle.pairs.specs.Pairs.{Setting, Held, setting, DifferencesOf}
-use Rattle.pairs.proofs.Laws.{agent-p, name-row}
-use Rattle.pairs.proofs.ByDifference.{rooms-there, figures-there, breaks-by}
-use Rattle.filter.proofs.Members.{AtMember, members-begun, members-more, members-done}
+use Prim.Native.Nat.{◌-◌}
+use Rattle.pairs.specs.Pairs.{setting, DifferencesOf}
+use Rattle.filter.proofs.Members.{AtMember}
 use Rattle.filter.proofs.members_pass.Given as goal
 
 abbrev pub invariant-loop-next : goal.invariant-loop-next

@@ -1,11 +1,8 @@
 -- The flag of the loop says that the needs passed are met.
 use Prim.Native.Nat.{◌≤◌, ◌-◌}
-use mathlib.Core.Path.{◌≡◌, sym}
+use mathlib.Core.Path.{◌≡◌}
 use Rattle.laws.specs.Search.{every}
-use Rattle.laws.proofs.Search.{every-zero, every-step}
-use Rattle.filter.specs.Filter.{need_met, NeedRow}
-use borrow.Author.Rules.{rules}
-use native.Mathlib.Omega.{arith}
+use Rattle.filter.specs.Filter.{need_met}
 use Rattle.filter.proofs.needs_met.Given as goal
 
 abbrev pub invariant-loop-k : goal.invariant-loop-k

@@ -1,11 +1,10 @@
 -- A node without figures has nothing; at another, no sender breaks the rule.
 use mathlib.Core.Path.{◌≡◌, sym, ◌∙◌}
 use mathlib.Core.Bool.{true}
-use borrow.Author.Rules.{rules}
 use native.Mathlib.Omega.{arith}
 use Rattle.records.specs.Record.{node_of}
 use Rattle.records.specs.Kinds.{is_receiver}
-use Rattle.pairs.specs.Pairs.{Setting, Held, setting}
+use Rattle.pairs.specs.Pairs.{Held, setting}
 use Rattle.pairs.proofs.Search.{nothing-found}
 use Rattle.filter.proofs.Laws.{receives-figures, sound-node}
 use Rattle.filter.proofs.node_passes.Goals as goal
@@ -30,10 +29,10 @@ receiver c =
 
 pub passes-requires : goal.passes-requires
 passes-requires c = record {
-      given = c.requires.given.0;
-      gathered = c.requires.gathered;
-      reads = (held (goal.at.passes-requires c).After-node_at, receiver (goal.at.passes-requires c).Else-figures-eq0);
-    }
+  given = c.requires.given.0;
+  gathered = c.requires.gathered;
+  reads = (held (goal.at.passes-requires c).After-node_at, receiver (goal.at.passes-requires c).Else-figures-eq0);
+}
 
 pub returns : goal.returns
 returns c e =

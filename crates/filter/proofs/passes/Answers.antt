@@ -1,12 +1,11 @@
-use Prim.Native.Nat.{◌≤◌, ◌-◌}
+use Prim.Native.Nat.{◌-◌}
 use mathlib.Core.Path.{◌≡◌, sym}
 use mathlib.Core.Bool.{true≢false}
-use borrow.Author.Tests.{not-false}
 use borrow.Author.Rules.{rules}
 use native.Mathlib.Omega.{arith}
 use Rattle.pairs.specs.Pairs.{setting}
 use Rattle.senders.specs.Sets.{family}
-use Rattle.filter.proofs.Laws.{SetsSound, sets_more, sets-done}
+use Rattle.filter.proofs.Laws.{sets_more, sets-done}
 use Rattle.filter.proofs.passes.Goals as goal
 
 pub loop-g-init : goal.loop-g-init
@@ -14,9 +13,9 @@ loop-g-init c = (search rules, λ sets all links g h. absurd (omega (arith, h)))
 
 pub set_passes-requires : goal.set_passes-requires
 set_passes-requires c = record {
-      given = (c.requires.given, c.requires.gathered.collected.room, c.requires.gathered.linked.size, omega (arith, c.loop-g-test.true));
-      reads = c.requires.reads;
-    }
+  given = (c.requires.given, c.requires.gathered.collected.room, c.requires.gathered.linked.size, omega (arith, c.loop-g-test.true));
+  reads = c.requires.reads;
+}
 
 pub returns-then-not-set_passes : goal.returns-then-not-set_passes
 returns-then-not-set_passes c e = absurd (true≢false (sym e))

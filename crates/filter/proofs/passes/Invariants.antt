@@ -1,13 +1,8 @@
 -- The sets passed so far have no sender that breaks the rule with p, whichever sets the lists stand for.
 use Prim.Native.Nat.{◌≤◌, ◌-◌}
-use mathlib.Core.Path.{◌≡◌, sym}
-use mathlib.Core.Bool.{true≢false}
-use borrow.Author.Tests.{not-false}
-use borrow.Author.Rules.{rules}
-use native.Mathlib.Omega.{arith}
 use Rattle.pairs.specs.Pairs.{setting}
 use Rattle.senders.specs.Sets.{family}
-use Rattle.filter.proofs.Laws.{SetsSound, sets_more, sets-done}
+use Rattle.filter.proofs.Laws.{SetsSound}
 use Rattle.filter.proofs.passes.Given as goal
 
 abbrev pub invariant-loop-g : goal.invariant-loop-g

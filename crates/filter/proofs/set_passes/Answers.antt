@@ -2,14 +2,11 @@
 use mathlib.Core.Path.{sym, ◌∙◌}
 use mathlib.Core.Bool.{true≢false}
 use Rattle.laws.proofs.Search.{and_split}
-use borrow.Author.Tests.{not-true}
-use borrow.Author.Rules.{rules}
 use native.Mathlib.Omega.{arith}
 use Rattle.arrays.proofs.Agents.{small-arity, left_below}
-use Rattle.pairs.specs.Pairs.{Setting, setting}
 use Rattle.pairs.proofs.Laws.{agent-p, name-row, arg-row}
 use Rattle.pairs.proofs.ByDifference.{light}
-use Rattle.senders.specs.Sets.{Family, family}
+use Rattle.senders.specs.Sets.{family}
 use Rattle.filter.proofs.Laws.{far-set, whole_set}
 use Rattle.filter.proofs.set_passes.Goals as goal
 
@@ -58,9 +55,9 @@ returns-then-not-deep c e = absurd (true≢false (sym e))
 
 pub members_pass-requires : goal.members_pass-requires
 members_pass-requires c = record {
-      given = (c.requires.given.0, c.requires.given.2, c.requires.given.3);
-      reads = c.requires.reads;
-    }
+  given = (c.requires.given.0, c.requires.given.2, c.requires.given.3);
+  reads = c.requires.reads;
+}
 
 pub returns : goal.returns
 returns c e sets all links = c.members_pass.ensures e sets links

@@ -1,10 +1,6 @@
-use Prim.Native.Nat.{◌≤◌, ◌-◌}
+use Prim.Native.Nat.{◌-◌}
 use borrow.Author.Count.{below_more}
-use borrow.Author.Tests.{not-false}
-use borrow.Author.Rules.{rules}
 use native.Mathlib.Omega.{arith}
-use Rattle.pairs.specs.Pairs.{list_table, Screened}
-use Rattle.records.specs.Record.{array_of}
 use Rattle.filter.proofs.sift.Goals as goal
 
 pub loop-i-init : goal.loop-i-init
@@ -12,9 +8,9 @@ loop-i-init c = (c.requires.given.1, c.requires.given.2)
 
 pub node_passes-requires : goal.node_passes-requires
 node_passes-requires c = record {
-      given = (c.requires.given.0, c.loop-i-test.true);
-      gathered = c.requires.gathered;
-    }
+  given = (c.requires.given.0, c.loop-i-test.true);
+  gathered = c.requires.gathered;
+}
 
 pub returns-then-not-node_passes : goal.returns-then-not-node_passes
 returns-then-not-node_passes c = c.loop-i.invariant

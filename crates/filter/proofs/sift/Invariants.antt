@@ -1,9 +1,5 @@
 -- Nothing is found below node i.
 use Prim.Native.Nat.{◌≤◌, ◌-◌}
-use borrow.Author.Count.{below_more}
-use borrow.Author.Tests.{not-false}
-use borrow.Author.Rules.{rules}
-use native.Mathlib.Omega.{arith}
 use Rattle.pairs.specs.Pairs.{list_table, Screened}
 use Rattle.records.specs.Record.{array_of}
 use Rattle.filter.proofs.sift.Given as goal

@@ -1,9 +1,7 @@
-use Prim.Native.Nat.{ℕ, ◌≤◌, ◌<◌, ◌-◌}
+use Prim.Native.Nat.{ℕ, ◌<◌, ◌-◌}
 use mathlib.Core.Path.{◌≡◌, sym, ◌∙◌}
 use mathlib.Core.List.{List}
-use lib.ListN.{length}
-use borrow.Author.Tests.{not-true, not-false}
-use Rattle.laws.specs.Search.{clear, first}
+use Rattle.laws.specs.Search.{first}
 use Rattle.laws.proofs.Search.{first-zero, first-pass, first-here, clear-test, hit-test}
 use Rattle.marks.specs.Marks.{marked}
 use Rattle.records.specs.Record.{array_of}

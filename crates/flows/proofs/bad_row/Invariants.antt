@@ -1,18 +1,12 @@
 -- The loop's invariant: the test by marks finds nothing at the rows passed, and the marks are the table's bits. So the test of all rows
 -- is refusal 19 (`rows-checked`).
 use Prim.Native.Nat.{ℕ, ◌≤◌, ◌<◌, ◌-◌}
-use mathlib.Core.Path.{◌≡◌, sym, ◌∙◌}
-use mathlib.Core.List.{List}
+use mathlib.Core.Path.{◌≡◌}
 use lib.ListN.{length}
-use borrow.Author.Tests.{not-true, not-false}
 use Rattle.laws.specs.Search.{clear, first}
-use Rattle.laws.proofs.Search.{first-zero, first-pass, first-here, clear-test, hit-test}
 use Rattle.marks.specs.Marks.{marked}
-use Rattle.records.specs.Record.{array_of}
-use Rattle.layout.specs.Table.{row_bit, refusal19}
-use Rattle.flows.proofs.Laws.{check, rows-checked}
-use borrow.Author.Rules.{rules}
-use native.Mathlib.Omega.{arith}
+use Rattle.layout.specs.Table.{row_bit}
+use Rattle.flows.proofs.Laws.{check}
 use Rattle.flows.proofs.bad_row.Given as goal
 
 abbrev pub invariant-loop-v : goal.invariant-loop-v

@@ -1,13 +1,8 @@
 -- The loop's invariant: the first i bytes of the table are written.
 use Prim.Native.Nat.{◌≤◌, ◌-◌}
-use mathlib.Core.Path.{◌≡◌, refl, sym, ap, ◌∙◌}
-use lib.ListN.{length, take, length-set}
-use lib.Seq.{take_all}
-use borrow.Author.Rules.{rules}
-use native.Mathlib.Omega.{arith}
+use mathlib.Core.Path.{◌≡◌}
+use lib.ListN.{length, take}
 use Rattle.laws.specs.Lists.{put}
-use Rattle.laws.proofs.Put.{put-nil}
-use Rattle.flows.proofs.RowBytes.{byte-copied}
 use Rattle.flows.proofs.copy_bytes.Given as goal
 
 abbrev pub invariant-loop-i : goal.invariant-loop-i

@@ -1,11 +1,10 @@
-use Prim.Native.Nat.{ℕ, ◌*◌, ◌<◌, ◌≤◌, ◌-◌}
+use Prim.Native.Nat.{◌*◌, ◌-◌}
 use mathlib.Core.Path.{◌≡◌, ◌∙◌}
-use lib.ListN.{length, get_or, length-set}
+use lib.ListN.{length-set}
 use borrow.Author.Count.{below_none}
 use Rattle.wire.specs.Numbers.{u64_at}
 use Rattle.marks.proofs.Laws.{marked-bytes}
 use Rattle.laws.proofs.Lists.{set_more}
-use borrow.Author.Rules.{rules}
 use native.Mathlib.Omega.{arith}
 use Rattle.flows.proofs.flow_rows.Goals as goal
 
@@ -14,8 +13,7 @@ loop-i-init c = (omega arith, c.requires.0, below_none _)
 
 pub loop-i-preserved : goal.loop-i-preserved
 loop-i-preserved c =
-    let l = c.loop-i in
-    (
+    let l = c.loop-i in (
       omega arith,
       length-set l.rows _ _ ∙ l.invariant.1,
       set_more (λ k. u64_at c.args.table.now (8 * k)) l.rows l.i c.u64_at.result (omega arith)

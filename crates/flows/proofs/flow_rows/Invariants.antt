@@ -1,14 +1,9 @@
 -- The loop's invariant: the first i words are the first i 64-bit numbers of the table.
 -- The bits of such a number are those of its bytes (`marked-bytes`), since the table's elements are bytes.
 use Prim.Native.Nat.{ℕ, ◌*◌, ◌<◌, ◌≤◌, ◌-◌}
-use mathlib.Core.Path.{◌≡◌, ◌∙◌}
-use lib.ListN.{length, get_or, length-set}
-use borrow.Author.Count.{below_none}
+use mathlib.Core.Path.{◌≡◌}
+use lib.ListN.{length, get_or}
 use Rattle.wire.specs.Numbers.{u64_at}
-use Rattle.marks.proofs.Laws.{marked-bytes}
-use Rattle.laws.proofs.Lists.{set_more}
-use borrow.Author.Rules.{rules}
-use native.Mathlib.Omega.{arith}
 use Rattle.flows.proofs.flow_rows.Given as goal
 
 abbrev pub invariant-loop-i : goal.invariant-loop-i

@@ -1,11 +1,8 @@
 -- The loop's invariant: counted are the bits of the first i words that the table's words have not, at most 64 a word.
-use Prim.Native.Nat.{◌+◌, ◌*◌, ◌-◌, ◌≤◌}
-use mathlib.Core.Path.{◌≡◌, sym, ap, ap₂, ◌∙◌}
-use borrow.Author.Rules.{rules}
-use native.Mathlib.Omega.{arith}
+use Prim.Native.Nat.{◌*◌, ◌-◌, ◌≤◌}
+use mathlib.Core.Path.{◌≡◌}
 use Rattle.laws.specs.Search.{sum}
-use Rattle.laws.proofs.Search.{sum-zero, sum_step}
-use Rattle.flows.proofs.Counted.{fresh, fresh-ones, fresh-few, fresh-rows}
+use Rattle.flows.proofs.Counted.{fresh}
 use Rattle.flows.proofs.new_bits.Given as goal
 
 abbrev pub invariant-loop-i : goal.invariant-loop-i

@@ -1,15 +1,10 @@
 -- The loop's invariant: the first i bytes of the rows are written.
 use Prim.Native.Nat.{◌≤◌, ◌-◌}
-use mathlib.Core.Path.{◌≡◌, refl, sym, ap, ◌∙◌}
-use lib.ListN.{length, length-set}
-use borrow.Author.Rules.{rules}
-use native.Mathlib.Omega.{arith}
+use mathlib.Core.Path.{◌≡◌}
+use lib.ListN.{length}
 use Rattle.laws.specs.Lists.{put}
-use Rattle.laws.proofs.Put.{put-nil}
 use Rattle.marks.specs.Marks.{marked}
-use Rattle.layout.specs.Table.{balance_at}
 use Rattle.flows.specs.Written.{row_bytes}
-use Rattle.flows.proofs.RowBytes.{byte_put}
 use Rattle.flows.proofs.put_rows.Given as goal
 
 abbrev pub invariant-loop-i : goal.invariant-loop-i

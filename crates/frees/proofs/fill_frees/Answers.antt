@@ -1,12 +1,9 @@
-use Prim.Native.Nat.{◌+◌, ◌*◌, ◌-◌, ◌≤◌}
+use Prim.Native.Nat.{◌+◌, ◌*◌, ◌-◌}
 use native.Mathlib.Omega.{arith}
-use mathlib.Core.Path.{◌≡◌, ◌∙◌}
-use lib.ListN.{length}
-use borrow.Author.Rules.{rules}
+use mathlib.Core.Path.{◌∙◌}
 use Rattle.model.proofs.Tree.{child-above}
 use Rattle.records.specs.Record.{array_of}
 use Rattle.records.proofs.Laws.{node-read}
-use Rattle.frees.specs.Frees.{FreeFrom}
 use Rattle.frees.proofs.Laws.{free-row}
 use Rattle.frees.proofs.fill_frees.Goals as goal
 

@@ -1,14 +1,9 @@
 -- `frees::fill_frees` meets its contract. The loop's invariant: the rows of the nodes from i on are right.
-use Prim.Native.Nat.{◌+◌, ◌*◌, ◌-◌, ◌≤◌}
-use native.Mathlib.Omega.{arith}
-use mathlib.Core.Path.{◌≡◌, ◌∙◌}
+use Prim.Native.Nat.{◌-◌, ◌≤◌}
+use mathlib.Core.Path.{◌≡◌}
 use lib.ListN.{length}
-use borrow.Author.Rules.{rules}
-use Rattle.model.proofs.Tree.{child-above}
 use Rattle.records.specs.Record.{array_of}
-use Rattle.records.proofs.Laws.{node-read}
 use Rattle.frees.specs.Frees.{FreeFrom}
-use Rattle.frees.proofs.Laws.{free-row}
 use Rattle.frees.proofs.fill_frees.Given as goal
 
 abbrev pub invariant-loop-i : goal.invariant-loop-i

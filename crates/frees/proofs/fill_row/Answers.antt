@@ -1,11 +1,10 @@
-use Prim.Native.Nat.{◌-◌, ◌≤◌, ◌<◌}
+use Prim.Native.Nat.{◌-◌, ◌<◌}
 use native.Mathlib.Omega.{arith}
 use mathlib.Core.Path.{◌≡◌, refl, ap, ◌∙◌}
 use lib.ListN.{length, length-set}
-use borrow.Author.Rules.{rules}
 use Rattle.marks.specs.Marks.{word_at}
 use Rattle.records.specs.Record.{node_of}
-use Rattle.frees.proofs.Laws.{SameElse, RowTo, else-set, row-set, row-filled}
+use Rattle.frees.proofs.Laws.{else-set, row-set, row-filled}
 use Rattle.frees.proofs.fill_row.Goals as goal
 
 pub loop-w-init : goal.loop-w-init

@@ -1,12 +1,9 @@
 -- `frees::fill_row` meets its contract. The loop's invariant: the first w words of row i are right, and every word outside row i is as it was.
-use Prim.Native.Nat.{◌-◌, ◌≤◌, ◌<◌}
-use native.Mathlib.Omega.{arith}
-use mathlib.Core.Path.{◌≡◌, refl, ap, ◌∙◌}
-use lib.ListN.{length, length-set}
-use borrow.Author.Rules.{rules}
-use Rattle.marks.specs.Marks.{word_at}
+use Prim.Native.Nat.{◌-◌, ◌≤◌}
+use mathlib.Core.Path.{◌≡◌}
+use lib.ListN.{length}
 use Rattle.records.specs.Record.{node_of}
-use Rattle.frees.proofs.Laws.{SameElse, RowTo, else-set, row-set, row-filled}
+use Rattle.frees.proofs.Laws.{SameElse, RowTo}
 use Rattle.frees.proofs.fill_row.Given as goal
 
 abbrev pub invariant-loop-w : goal.invariant-loop-w

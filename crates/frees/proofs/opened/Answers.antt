@@ -1,13 +1,10 @@
-use Prim.Native.Nat.{◌+◌, ◌*◌, ◌<◌, ◌≤◌, ◌-◌}
+use Prim.Native.Nat.{◌+◌, ◌*◌, ◌<◌, ◌-◌}
 use native.Mathlib.Omega.{arith}
 use mathlib.Core.Path.{◌≡◌, refl, sym, ◌∙◌}
-use lib.ListN.{length}
-use borrow.Author.Rules.{rules}
 use Rattle.laws.proofs.Search.{any-zero}
 use Rattle.marks.proofs.Laws.{marked-none}
 use Rattle.model.specs.Tree.{is_new}
-use Rattle.records.specs.Record.{array_of}
-use Rattle.frees.proofs.Laws.{Opened, opened-more}
+use Rattle.frees.proofs.Laws.{opened-more}
 use Rattle.frees.proofs.opened.Goals as goal
 use Rattle.frees.proofs.opened.Goals.{After-node_at-r}
 

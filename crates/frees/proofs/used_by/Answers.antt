@@ -5,7 +5,6 @@ use mathlib.Core.Bool.{Bool, ◌&&◌, ◌||◌}
 use mathlib.Core.List.{List}
 use lib.Dec.{eqb}
 use lib.ListN.{replicate}
-use borrow.Author.Rules.{rules}
 use Rattle.laws.specs.Lists.{has}
 use Rattle.marks.specs.Marks.{marked}
 use Rattle.marks.proofs.Laws.{marked-none, marked_more}

@@ -1,6 +1,5 @@
 -- The array's answer first, then the number of choice bytes.
 use mathlib.Core.Path.{sym, ap, ◌∙◌}
-use borrow.Author.Rules.{rules}
 use Rattle.arrays.specs.declared.ArrayAnswer.TheVariants as A
 use Rattle.handover.proofs.Calls.{admit-refused, admit-22, admit-read}
 use Rattle.handover.proofs.admit.Goals as goal

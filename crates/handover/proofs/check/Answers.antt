@@ -11,7 +11,6 @@ use Rattle.tables.proofs.Laws.{length-fits, passed-table}
 use Rattle.handover.specs.Front.{Judges}
 use Rattle.handover.proofs.Laws.{array-refused, table-refused, passed-judges}
 use native.Mathlib.Omega.{arith}
-use borrow.Author.Rules.{rules}
 use Rattle.handover.proofs.check.Goals as goal
 
 pub check_table-requires : goal.check_table-requires

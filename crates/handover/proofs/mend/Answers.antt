@@ -1,6 +1,5 @@
 -- By the array's answer, then the table's.
 use mathlib.Core.Path.{◌≡◌, sym, ap, ◌∙◌}
-use borrow.Author.Rules.{rules}
 use native.Mathlib.Omega.{arith}
 use Rattle.arrays.specs.declared.ArrayAnswer.TheVariants as A
 use Rattle.arrays.specs.File.{read_array}

@@ -1,6 +1,5 @@
 -- Refusal 32, or what was mended.
 use mathlib.Core.Path.{sym, subst}
-use borrow.Author.Rules.{rules}
 use native.Mathlib.Omega.{arith}
 use Rattle.laws.proofs.Search.{test-clear, and_then-split}
 use Rattle.arrays.proofs.Laws.{read_is}

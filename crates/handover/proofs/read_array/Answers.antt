@@ -1,5 +1,4 @@
 -- By what the array reader answers.
-use borrow.Author.Rules.{rules}
 use Rattle.handover.proofs.Laws.{array-promise}
 use Rattle.handover.proofs.read_array.Goals as goal
 

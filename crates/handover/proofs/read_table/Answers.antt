@@ -1,6 +1,5 @@
 -- By what the table reader answers.
 use native.Mathlib.Omega.{arith}
-use borrow.Author.Rules.{rules}
 use Rattle.handover.proofs.Laws.{table-promise}
 use Rattle.handover.proofs.read_table.Goals as goal
 

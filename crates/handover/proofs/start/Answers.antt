@@ -1,5 +1,4 @@
 -- By what admits the array, then by what the engine answers.
-use borrow.Author.Rules.{rules}
 use Rattle.handover.proofs.Calls.{not-admitted, admitted, start-not, start-stopped, start-started}
 use Rattle.handover.proofs.start.Goals as goal
 

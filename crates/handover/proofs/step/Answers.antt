@@ -1,5 +1,4 @@
 -- By what admits the array, then by what the engine answers.
-use borrow.Author.Rules.{rules}
 use Rattle.handover.proofs.Calls.{not-admitted, admitted, step-not, step-stopped, step-made}
 use Rattle.handover.proofs.step.Goals as goal
 

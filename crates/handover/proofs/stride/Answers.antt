@@ -1,5 +1,4 @@
 -- By what admits the array, then by what the engine answers.
-use borrow.Author.Rules.{rules}
 use Rattle.handover.proofs.Calls.{not-admitted, admitted, stride-not, stride-stopped, stride-strode}
 use Rattle.handover.proofs.stride.Goals as goal
 

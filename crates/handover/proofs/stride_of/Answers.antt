@@ -1,7 +1,6 @@
 -- By the turn: an ending with the steps made, or the step.
 use Prim.Native.Nat.{ℕ, ◌-◌}
 use mathlib.Core.Path.{sym, ap, ◌∙◌}
-use borrow.Author.Rules.{rules}
 use Rattle.engine.specs.declared.Stride.{Stride}
 use Rattle.handover.specs.declared.StrideAnswer.TheVariants.{Ended}
 use Rattle.handover.specs.Bodies.{stride_answer}

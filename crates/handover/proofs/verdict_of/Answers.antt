@@ -1,7 +1,6 @@
 -- Case by case.
 use mathlib.Core.Path.{sym, ap}
 use Rattle.handover.specs.Bodies.{verdict_of}
-use borrow.Author.Rules.{rules}
 use Rattle.handover.proofs.verdict_of.Goals as goal
 
 pub returns-in-Held : goal.returns-in-Held

@@ -1,5 +1,4 @@
 -- By what admits the array, then by what the engine answers.
-use borrow.Author.Rules.{rules}
 use Rattle.handover.proofs.Calls.{not-admitted, admitted, walk-not, walk-stopped, walk-walked}
 use Rattle.handover.proofs.walk.Goals as goal
 

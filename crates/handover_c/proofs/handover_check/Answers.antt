@@ -1,5 +1,4 @@
 -- By what the checker promises.
-use borrow.Author.Rules.{rules}
 use Rattle.handover_c.proofs.Verdicts.{verdict-fits, checks}
 use Rattle.handover_c.proofs.handover_check.Goals as goal
 

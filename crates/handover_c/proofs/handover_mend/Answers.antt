@@ -1,5 +1,4 @@
 -- By what mending promises.
-use borrow.Author.Rules.{rules}
 use Rattle.handover_c.proofs.Mends.{mend-answer, mends}
 use Rattle.handover_c.proofs.handover_mend.Goals as goal
 

@@ -1,5 +1,4 @@
 -- By what the start promises.
-use borrow.Author.Rules.{rules}
 use Rattle.handover_c.proofs.Replies.{start-answer, starts}
 use Rattle.handover_c.proofs.handover_start.Goals as goal
 

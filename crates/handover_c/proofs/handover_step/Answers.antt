@@ -1,5 +1,4 @@
 -- By what the step promises.
-use borrow.Author.Rules.{rules}
 use Rattle.handover_c.proofs.Replies.{step-answer, steps}
 use Rattle.handover_c.proofs.handover_step.Goals as goal
 

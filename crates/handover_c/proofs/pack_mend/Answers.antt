@@ -1,7 +1,6 @@
 -- By the answer: the bits, or the refusal.
 use mathlib.Core.Path.{sym, ap, ◌∙◌, subst}
 use native.Mathlib.Omega.{arith}
-use borrow.Author.Rules.{rules}
 use Rattle.handover.specs.declared.MendAnswer.{MendAnswer}
 use Rattle.handover.specs.Mending.{says_mend}
 use Rattle.handover.specs.Refusals.{MendNumber}

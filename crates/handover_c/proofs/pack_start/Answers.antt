@@ -1,7 +1,6 @@
 -- By the answer: the counts, or the refusal.
 use mathlib.Core.Path.{sym, ap, ◌∙◌, subst}
 use native.Mathlib.Omega.{arith}
-use borrow.Author.Rules.{rules}
 use Rattle.handover.specs.declared.StartAnswer.{StartAnswer}
 use Rattle.handover.specs.Engine.{says_start}
 use Rattle.handover.specs.Refusals.{StartNumber}

@@ -1,7 +1,6 @@
 -- By the verdict: its figures fit, and so does a refusal.
 use mathlib.Core.Path.{sym, ap, ◌∙◌, subst}
 use native.Mathlib.Omega.{arith}
-use borrow.Author.Rules.{rules}
 use Rattle.handover.specs.declared.Verdict.{Verdict}
 use Rattle.handover.specs.Front.{says}
 use Rattle.handover.proofs.Refusals.{table-few}

@@ -1,7 +1,6 @@
 -- Both limits hold where the lesser does.
 use Prim.Native.Nat.{◌/◌, ◌+◌}
 use lib.ListN.{length}
-use borrow.Author.Rules.{rules}
 use Rattle.lent.proofs.Laws.{leb-min}
 use Rattle.lent.proofs.threads_fit.Goals as goal
 

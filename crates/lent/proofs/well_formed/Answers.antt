@@ -5,9 +5,8 @@ use mathlib.Core.Bool.{true, ◌&&◌}
 use native.Mathlib.Omega.{arith}
 use lib.Dec.{leb}
 use borrow.Author.Rules.{rules}
-use borrow.Author.Tests.{leb-true, not-true, not-false}
-use Rattle.model.specs.Tree.{Array}
-use Rattle.model.specs.Memory.{Memory, thread_room, marker_room, config_of, entries_of, formed}
+use borrow.Author.Tests.{leb-true}
+use Rattle.model.specs.Memory.{thread_room, marker_room, config_of, entries_of, formed}
 use Rattle.model.proofs.Memory.{thread-room, marker-room}
 use Rattle.records.specs.Record.{array_of}
 use Rattle.threads.specs.Threads.{threads_formed}
@@ -15,7 +14,7 @@ use Rattle.markers.specs.Markers.{entries_formed}
 use Rattle.lent.specs.Lent.{lent_of}
 use Rattle.lent.proofs.Laws as L
 use Rattle.lent.proofs.well_formed.Goals as goal
-use Rattle.lent.proofs.well_formed.Goals.{Else-not-markers_fit, Else-not-threads_fit, Start}
+use Rattle.lent.proofs.well_formed.Goals.{Else-not-markers_fit, Else-not-threads_fit}
 
 few-threads : (c : Else-not-threads_fit) → let x = c.args in leb x.counts.threads (thread_room x.t.names x.threads.now) ≡ true
 few-threads c = sym c.threads_fit.ensures ∙ c.if-not-threads_fit.false

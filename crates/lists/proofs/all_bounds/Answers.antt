@@ -1,12 +1,11 @@
-use Prim.Native.Nat.{ℕ, ◌<◌, ◌≤◌, ◌-◌}
-use mathlib.Core.Path.{◌≡◌, ap, ◌∙◌}
-use lib.ListN.{length, get_or, length-set}
+use Prim.Native.Nat.{◌-◌}
+use mathlib.Core.Path.{ap, ◌∙◌}
+use lib.ListN.{length-set}
 use borrow.Author.Count.{below_none}
 use Rattle.laws.proofs.Lists.{set_more}
 use Rattle.wire.specs.Numbers.{u32_at}
 use Rattle.layout.specs.Table.{balance_at}
 use Rattle.layout.proofs.Laws.{balance-fits}
-use borrow.Author.Rules.{rules}
 use native.Mathlib.Omega.{arith}
 use Rattle.lists.proofs.all_bounds.Goals as goal
 
@@ -20,8 +19,7 @@ u32_at-requires c =
 pub loop-k-preserved : goal.loop-k-preserved
 loop-k-preserved c =
     let l = c.loop-k in
-    let x = c.args in
-    (
+    let x = c.args in (
       omega arith,
       length-set l.bounds _ _ ∙ l.invariant.1,
       set_more (λ j. u32_at x.table.now (balance_at x.z j)) l.bounds l.k c.u32_at.result (omega arith) l.invariant.2

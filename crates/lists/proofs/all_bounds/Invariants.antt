@@ -1,14 +1,9 @@
 -- The loop's invariant: the first k bounds are filled. A balance lies before the claims (`balance-fits`), so its bound lies in the table.
 use Prim.Native.Nat.{ℕ, ◌<◌, ◌≤◌, ◌-◌}
-use mathlib.Core.Path.{◌≡◌, ap, ◌∙◌}
-use lib.ListN.{length, get_or, length-set}
-use borrow.Author.Count.{below_none}
-use Rattle.laws.proofs.Lists.{set_more}
+use mathlib.Core.Path.{◌≡◌}
+use lib.ListN.{length, get_or}
 use Rattle.wire.specs.Numbers.{u32_at}
 use Rattle.layout.specs.Table.{balance_at}
-use Rattle.layout.proofs.Laws.{balance-fits}
-use borrow.Author.Rules.{rules}
-use native.Mathlib.Omega.{arith}
 use Rattle.lists.proofs.all_bounds.Given as goal
 
 abbrev pub invariant-loop-k : goal.invariant-loop-k

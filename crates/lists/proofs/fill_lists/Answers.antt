@@ -2,14 +2,13 @@
 use mathlib.Core.Path.{◌∙◌}
 use native.Mathlib.Omega.{arith}
 use Rattle.lists.proofs.Laws.{filled}
-use borrow.Author.Rules.{rules}
 use Rattle.lists.proofs.fill_lists.Goals as goal
 
 pub all_loads-requires : goal.all_loads-requires
 all_loads-requires c = record {
-      records_fit = (omega (arith, c.requires.read.0.fills), c.requires.read.0.formed, c.requires.read.1.laid);
-      loads_len = c.requires.loads_len.0;
-    }
+  records_fit = (omega (arith, c.requires.read.0.fills), c.requires.read.0.formed, c.requires.read.1.laid);
+  loads_len = c.requires.loads_len.0;
+}
 
 pub shape_of-loads : goal.shape_of-loads
 shape_of-loads c = c.all_loads.auto.loads

@@ -1,9 +1,9 @@
-use Prim.Native.Nat.{◌≤◌, ◌-◌}
+use Prim.Native.Nat.{◌-◌}
 use mathlib.Core.Path.{◌∙◌}
 use borrow.Author.Count.{below_none}
 use borrow.Author.Rules.{rules}
 use native.Mathlib.Omega.{arith}
-use Rattle.mending.proofs.Growth.{grew_same, TakenTo, taken_more}
+use Rattle.mending.proofs.Growth.{grew_same, taken_more}
 use Rattle.mending.proofs.add_args.Goals as goal
 
 pub loop-n-init : goal.loop-n-init

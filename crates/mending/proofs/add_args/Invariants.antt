@@ -1,10 +1,6 @@
 -- The rows of the parameters passed contain what is sent.
 use Prim.Native.Nat.{◌≤◌, ◌-◌}
-use mathlib.Core.Path.{◌∙◌}
-use borrow.Author.Count.{below_none}
-use borrow.Author.Rules.{rules}
-use native.Mathlib.Omega.{arith}
-use Rattle.mending.proofs.Growth.{grew_same, TakenTo, taken_more}
+use Rattle.mending.proofs.Growth.{TakenTo}
 use Rattle.mending.proofs.add_args.Given as goal
 
 abbrev pub invariant-loop-n : goal.invariant-loop-n

@@ -1,7 +1,6 @@
 -- A row that is contained already adds nothing; else it is joined.
 use mathlib.Core.Path.{sym, ap, ◌∙◌}
 use lib.ListN.{length}
-use borrow.Author.Rules.{rules}
 use native.Mathlib.Omega.{arith}
 use Rattle.marks.proofs.Laws.{mark_if-length}
 use Rattle.mending.proofs.Growth.{added_none, added-row}

@@ -1,15 +1,9 @@
 -- The parameters passed have what is sent to them.
 use Prim.Native.Nat.{ℕ, ◌≤◌, ◌<◌, ◌-◌}
-use mathlib.Core.Path.{◌≡◌, sym, ◌∙◌}
+use mathlib.Core.Path.{◌≡◌}
 use mathlib.Core.Bool.{true}
 use lib.ListN.{get_or}
-use borrow.Author.Count.{below_none, below_more}
-use borrow.Author.Tests.{not-true, not-false}
-use borrow.Author.Rules.{rules}
-use native.Mathlib.Omega.{arith}
-use Rattle.laws.proofs.Search.{true-every, false-every}
 use Rattle.marks.specs.Marks.{inside}
-use Rattle.mending.specs.Growing.{has_at}
 use Rattle.mending.proofs.has_all.Given as goal
 
 abbrev pub invariant-loop-m : goal.invariant-loop-m

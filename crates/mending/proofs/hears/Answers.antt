@@ -1,8 +1,6 @@
 -- Each test that holds is a part of it.
 use mathlib.Core.Path.{sym, ◌∙◌}
 use mathlib.Core.Bool.{true≢false}
-use borrow.Author.Tests.{not-false}
-use borrow.Author.Rules.{rules}
 use Rattle.mending.proofs.hears.Goals as goal
 
 pub returns-then-not-receives : goal.returns-then-not-receives

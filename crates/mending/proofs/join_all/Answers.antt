@@ -1,9 +1,6 @@
-use Prim.Native.Nat.{◌≤◌, ◌-◌}
+use Prim.Native.Nat.{◌-◌}
 use mathlib.Core.Path.{◌∙◌}
-use borrow.Author.Rules.{rules}
 use native.Mathlib.Omega.{arith}
-use Rattle.pairs.specs.Pairs.{setting}
-use Rattle.mending.specs.Growing.{Gained}
 use Rattle.mending.proofs.Noting.{gained-same, gained-trans}
 use Rattle.mending.proofs.join_all.Goals as goal
 

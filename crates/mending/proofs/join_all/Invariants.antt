@@ -1,11 +1,7 @@
 -- The sets passed so far gave nothing but what live senders send.
 use Prim.Native.Nat.{◌≤◌, ◌-◌}
-use mathlib.Core.Path.{◌∙◌}
-use borrow.Author.Rules.{rules}
-use native.Mathlib.Omega.{arith}
 use Rattle.pairs.specs.Pairs.{setting}
 use Rattle.mending.specs.Growing.{Gained}
-use Rattle.mending.proofs.Noting.{gained-same, gained-trans}
 use Rattle.mending.proofs.join_all.Given as goal
 
 abbrev pub invariant-loop-n : goal.invariant-loop-n

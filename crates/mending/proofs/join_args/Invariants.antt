@@ -1,14 +1,10 @@
 -- The arguments before m are among what is sent.
 use Prim.Native.Nat.{ℕ, ◌-◌, ◌≤◌, ◌<◌}
-use mathlib.Core.Path.{◌≡◌, refl, sym, ap, ◌∙◌, subst}
-use mathlib.Core.Bool.{Bool, ◌&&◌, ◌||◌}
-use lib.Dec.{eqb, ltb}
+use mathlib.Core.Path.{◌≡◌}
+use mathlib.Core.Bool.{◌&&◌, ◌||◌}
+use lib.Dec.{ltb}
 use lib.ListN.{length, get_or}
-use borrow.Author.Rules.{rules}
-use native.Mathlib.Omega.{arith}
-use Rattle.laws.proofs.Search.{below-none-or, below_or}
-use Rattle.marks.specs.Marks.{marked, HasRow}
-use Rattle.records.specs.declared.Record.{Record}
+use Rattle.marks.specs.Marks.{marked}
 use Rattle.records.specs.Record.{record_of}
 use Rattle.mending.proofs.join_args.Given as goal
 

@@ -1,8 +1,6 @@
 -- What the sender of a live pair sends is joined, where it is not there already.
 use mathlib.Core.Path.{◌≡◌, refl, sym, ◌∙◌}
 use mathlib.Core.Bool.{true, or-false}
-use borrow.Author.Tests.{not-true, not-false}
-use borrow.Author.Rules.{rules}
 use Rattle.laws.proofs.Search.{every_true}
 use Rattle.pairs.specs.Pairs.{meets}
 use Rattle.mending.proofs.Growth.{sent-there}

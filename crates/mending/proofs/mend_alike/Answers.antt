@@ -1,6 +1,5 @@
 -- Nothing is spread but what live senders send to p.
 use mathlib.Core.Path.{refl}
-use borrow.Author.Rules.{rules}
 use Rattle.pairs.specs.Pairs.{setting}
 use Rattle.mending.proofs.Growth.{grew_same}
 use Rattle.mending.proofs.Noting.{gained-only}

@@ -1,10 +1,9 @@
 -- What live senders of the set send is in every choice of rows, and once it is in the parameters' rows, none of their pairs breaks the rule without a
 -- noted name.
 use mathlib.Core.Path.{refl, ◌∙◌}
-use borrow.Author.Rules.{rules}
 use native.Mathlib.Omega.{arith}
 use Rattle.arrays.proofs.Agents.{small-arity}
-use Rattle.pairs.specs.Pairs.{Setting, setting}
+use Rattle.pairs.specs.Pairs.{setting}
 use Rattle.mending.specs.Growing.{RuleThree}
 use Rattle.mending.proofs.Growth.{grew_by}
 use Rattle.mending.proofs.Noting.{asked-begun, gained-asked, sent-noted}

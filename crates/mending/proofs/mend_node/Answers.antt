@@ -1,11 +1,10 @@
 -- A node without figures asks for nothing, one that is out of reach or clear is noted, and of any other all small sets were looked at.
 use mathlib.Core.Path.{◌≡◌, sym, ◌∙◌}
 use mathlib.Core.Bool.{true}
-use borrow.Author.Rules.{rules}
 use native.Mathlib.Omega.{arith}
 use Rattle.records.specs.Record.{node_of}
 use Rattle.records.specs.Kinds.{is_receiver}
-use Rattle.pairs.specs.Pairs.{Setting, Held, setting}
+use Rattle.pairs.specs.Pairs.{Held, setting}
 use Rattle.filter.proofs.Laws.{receives-figures}
 use Rattle.mending.proofs.Growth.{grew_same}
 use Rattle.mending.proofs.Skipping.{channel-there, clear-node, idle-node, node-noted}
@@ -24,15 +23,15 @@ node_at-requires c = (omega (arith, c.requires.given.0.read.fills), c.requires.g
 
 pub returns-then-figures-eq0 : goal.returns-then-figures-eq0
 returns-then-figures-eq0 c = record {
-      grew = grew_same _ _ _;
-      by_index_2 = λ chosen k large. idle-node (let x = c.args in setting x.file.now x.t x.balances x.rows.now x.loads.now x.bounds.now) (held (goal.at.returns-then-figures-eq0 c).After-node_at) _ chosen _ c.args.on (sym c.figures.ensures ∙ c.if-figures-eq0.true);
-    }
+  grew = grew_same _ _ _;
+  by_index_2 = λ chosen k large. idle-node (let x = c.args in setting x.file.now x.t x.balances x.rows.now x.loads.now x.bounds.now) (held (goal.at.returns-then-figures-eq0 c).After-node_at) _ chosen _ c.args.on (sym c.figures.ensures ∙ c.if-figures-eq0.true);
+}
 
 pub receiver_clear-requires : goal.receiver_clear-requires
 receiver_clear-requires c = record {
-      reach_len = (c.requires.given.2, c.requires.by_index.1, c.requires.by_index.2, c.requires.given.0.lists.many_rows);
-      name_bound = channel-there c.requires.given.0 (held (goal.at.receiver_clear-requires c).After-node_at) (receiver (goal.at.receiver_clear-requires c).Else-figures-eq0);
-    }
+  reach_len = (c.requires.given.2, c.requires.by_index.1, c.requires.by_index.2, c.requires.given.0.lists.many_rows);
+  name_bound = channel-there c.requires.given.0 (held (goal.at.receiver_clear-requires c).After-node_at) (receiver (goal.at.receiver_clear-requires c).Else-figures-eq0);
+}
 
 pub returns-then-receiver_clear : goal.returns-then-receiver_clear
 returns-then-receiver_clear c =
@@ -43,10 +42,10 @@ returns-then-receiver_clear c =
 
 pub mend_receiver-requires : goal.mend_receiver-requires
 mend_receiver-requires c = record {
-      given = (c.requires.given.0, c.requires.given.1);
-      reads = (held (goal.at.mend_receiver-requires c).After-node_at, receiver (goal.at.mend_receiver-requires c).Else-figures-eq0);
-      by_index = c.requires.by_index.0;
-    }
+  given = (c.requires.given.0, c.requires.given.1);
+  reads = (held (goal.at.mend_receiver-requires c).After-node_at, receiver (goal.at.mend_receiver-requires c).Else-figures-eq0);
+  by_index = c.requires.by_index.0;
+}
 
 pub shape_of-rows : goal.shape_of-rows
 shape_of-rows c = c.mend_receiver.ensures.grew.size

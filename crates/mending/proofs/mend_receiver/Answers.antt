@@ -1,11 +1,7 @@
-use Prim.Native.Nat.{ℕ, ◌≤◌, ◌<◌, ◌-◌}
+use Prim.Native.Nat.{◌-◌}
 use mathlib.Core.Path.{◌≡◌, refl, ◌∙◌}
-use mathlib.Core.List.{List}
 use borrow.Author.Rules.{rules}
 use native.Mathlib.Omega.{arith}
-use Rattle.pairs.specs.Pairs.{setting}
-use Rattle.senders.specs.Sets.{family}
-use Rattle.mending.specs.Growing.{Grew, RuleThree, Stale, SetNoted}
 use Rattle.mending.proofs.Growth.{grew_same, grew_trans}
 use Rattle.mending.proofs.Noting.{given-again}
 use Rattle.mending.proofs.Skipping.{stale-grew, sets_more}
@@ -25,8 +21,7 @@ mend_set-requires c =
 pub loop-g-preserved : goal.loop-g-preserved
 loop-g-preserved c =
     let l = c.loop-g in
-    let a = l.invariant.1 in
-    (
+    let a = l.invariant.1 in (
       search rules,
       grew_trans a c.mend_set.ensures.grew,
       λ chosen k.

@@ -1,15 +1,9 @@
 -- The sets passed so far were looked at, whichever sets the lists stand for.
 use Prim.Native.Nat.{ℕ, ◌≤◌, ◌<◌, ◌-◌}
-use mathlib.Core.Path.{◌≡◌, refl, ◌∙◌}
 use mathlib.Core.List.{List}
-use borrow.Author.Rules.{rules}
-use native.Mathlib.Omega.{arith}
 use Rattle.pairs.specs.Pairs.{setting}
 use Rattle.senders.specs.Sets.{family}
 use Rattle.mending.specs.Growing.{Grew, RuleThree, Stale, SetNoted}
-use Rattle.mending.proofs.Growth.{grew_same, grew_trans}
-use Rattle.mending.proofs.Noting.{given-again}
-use Rattle.mending.proofs.Skipping.{stale-grew, sets_more}
 use Rattle.mending.proofs.mend_receiver.Given as goal
 
 abbrev pub invariant-loop-g : goal.invariant-loop-g

@@ -1,13 +1,8 @@
-use mathlib.Core.Path.{◌≡◌, sym, ◌∙◌}
-use lib.ListN.{length}
-use borrow.Author.Tests.{not-true, not-false}
+use mathlib.Core.Path.{sym, ◌∙◌}
 use borrow.Author.Rules.{rules}
 use native.Mathlib.Omega.{arith}
-use Rattle.records.specs.Record.{array_of}
-use Rattle.pairs.specs.Pairs.{setting}
-use Rattle.mending.specs.Growing.{Clean}
 use Rattle.mending.proofs.Noting.{given-again}
-use Rattle.mending.proofs.Passing.{Between, between-same, between_more, between-after, weight, pass-weight, finish}
+use Rattle.mending.proofs.Passing.{between-same, between_more, between-after, pass-weight, finish}
 use Rattle.mending.proofs.mend_rows.Goals as goal
 
 pub loop-t-init : goal.loop-t-init

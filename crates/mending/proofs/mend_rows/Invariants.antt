@@ -1,15 +1,11 @@
 -- The rows lie between those of the first pass and those that every choice contains, and pairs that break rule 3 use a name that is left. A pass sets a
 -- mark, or leaves no name.
-use mathlib.Core.Path.{◌≡◌, sym, ◌∙◌}
+use mathlib.Core.Path.{◌≡◌}
 use lib.ListN.{length}
-use borrow.Author.Tests.{not-true, not-false}
-use borrow.Author.Rules.{rules}
-use native.Mathlib.Omega.{arith}
 use Rattle.records.specs.Record.{array_of}
 use Rattle.pairs.specs.Pairs.{setting}
 use Rattle.mending.specs.Growing.{Clean}
-use Rattle.mending.proofs.Noting.{given-again}
-use Rattle.mending.proofs.Passing.{Between, between-same, between_more, between-after, weight, pass-weight, finish}
+use Rattle.mending.proofs.Passing.{Between, weight}
 use Rattle.mending.proofs.mend_rows.Given as goal
 
 abbrev pub invariant-loop-t : goal.invariant-loop-t

@@ -1,6 +1,5 @@
 -- A set that need not be looked at, and the look.
 use mathlib.Core.Path.{sym, ap, ◌∙◌}
-use borrow.Author.Rules.{rules}
 use native.Mathlib.Omega.{arith}
 use Rattle.arrays.proofs.Agents.{small-arity}
 use Rattle.pairs.proofs.Laws.{agent-p, name-row, arg-row}
@@ -33,10 +32,10 @@ returns-then-set_clear c =
 
 pub mend_members-requires : goal.mend_members-requires
 mend_members-requires c = record {
-      given = c.requires.given;
-      reads = c.requires.reads;
-      by_index = (c.requires.by_index.0, c.requires.by_index.1.gathered.sets, c.requires.by_index.1.gathered.linked);
-    }
+  given = c.requires.given;
+  reads = c.requires.reads;
+  by_index = (c.requires.by_index.0, c.requires.by_index.1.gathered.sets, c.requires.by_index.1.gathered.linked);
+}
 
 pub shape_of-rows : goal.shape_of-rows
 shape_of-rows c = c.mend_members.ensures.grew.size

@@ -1,6 +1,5 @@
 -- The lists stand for the table; with the own marks, and what rule 3 asks for, they are the mended rows.
 use mathlib.Core.Path.{refl, ap, ◌∙◌}
-use borrow.Author.Rules.{rules}
 use native.Mathlib.Omega.{arith}
 use Rattle.laws.specs.Lists.{put}
 use Rattle.lists.specs.Listed.{Listed}
@@ -23,9 +22,9 @@ flow_rows-requires c =
 
 pub fill_lists-requires : goal.fill_lists-requires
 fill_lists-requires c = let p = c.requires in record {
-      read = (p.0, p.1);
-      loads_len = (refl, refl);
-    }
+  read = (p.0, p.1);
+  loads_len = (refl, refl);
+}
 
 pub own_marks-requires : goal.own_marks-requires
 own_marks-requires c =

@@ -1,10 +1,7 @@
 -- The flag of the loop says that node j weighs no more in the balances passed.
 use Prim.Native.Nat.{◌≤◌, ◌-◌}
-use mathlib.Core.Path.{◌≡◌, sym}
-use borrow.Author.Rules.{rules}
-use native.Mathlib.Omega.{arith}
+use mathlib.Core.Path.{◌≡◌}
 use Rattle.laws.specs.Search.{every}
-use Rattle.laws.proofs.Search.{every-zero, every-step}
 use Rattle.mending.specs.Growing.{no_heavier}
 use Rattle.mending.proofs.no_heavier.Given as goal
 

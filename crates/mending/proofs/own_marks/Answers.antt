@@ -1,11 +1,8 @@
-use Prim.Native.Nat.{ℕ, ◌≤◌, ◌-◌}
+use Prim.Native.Nat.{ℕ, ◌-◌}
 use mathlib.Core.Path.{◌≡◌, ◌∙◌, subst}
 use mathlib.Core.List.{List}
-use borrow.Author.Rules.{rules}
 use native.Mathlib.Omega.{arith}
 use Rattle.marks.specs.Marks.{Joined}
-use Rattle.records.specs.Record.{array_of}
-use Rattle.mending.specs.Growing.{OwnMarked}
 use Rattle.mending.proofs.Own.{own-none, own-more}
 use Rattle.mending.proofs.own_marks.Goals as goal
 
@@ -28,8 +25,7 @@ pub loop-o-preserved : goal.loop-o-preserved
 loop-o-preserved c =
     let l = c.loop-o in
     let below = c.loop-o-test.true in
-    let new = c.is_marked.ensures ∙ c.opened-news.ensures l.o in
-    (
+    let new = c.is_marked.ensures ∙ c.opened-news.ensures l.o in (
       omega (arith, below),
       own-more _ l.o _ l.rows c.join.new.one _ (omega (arith, below, c.requires.1)) new l.invariant.1
           (subst (λ (row : List ℕ). Joined l.rows c.join.new.one l.o row 0) c.mark_if.ensures c.join.ensures),

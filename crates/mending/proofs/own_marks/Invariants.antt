@@ -1,13 +1,7 @@
 -- The names passed have their own marks.
-use Prim.Native.Nat.{ℕ, ◌≤◌, ◌-◌}
-use mathlib.Core.Path.{◌≡◌, ◌∙◌, subst}
-use mathlib.Core.List.{List}
-use borrow.Author.Rules.{rules}
-use native.Mathlib.Omega.{arith}
-use Rattle.marks.specs.Marks.{Joined}
+use Prim.Native.Nat.{◌≤◌, ◌-◌}
 use Rattle.records.specs.Record.{array_of}
 use Rattle.mending.specs.Growing.{OwnMarked}
-use Rattle.mending.proofs.Own.{own-none, own-more}
 use Rattle.mending.proofs.own_marks.Given as goal
 
 abbrev pub invariant-loop-o : goal.invariant-loop-o

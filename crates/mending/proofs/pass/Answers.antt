@@ -1,6 +1,5 @@
 -- Receivers on a name of `old` beside every sender, then the other receivers beside the senders that use one.
 use mathlib.Core.Path.{refl, ◌∙◌}
-use borrow.Author.Rules.{rules}
 use Rattle.mending.proofs.Growth.{grew_trans}
 use Rattle.mending.proofs.Noting.{given-again}
 use Rattle.mending.proofs.Passing.{clean-pass}
@@ -18,6 +17,6 @@ shape_of-rows c = c.sweep-2.ensures.grew.size ∙ c.sweep.ensures.grew.size
 
 pub returns : goal.returns
 returns c = record {
-      grew = grew_trans c.sweep.ensures.grew c.sweep-2.ensures.grew;
-      clean = clean-pass c.requires.given c.args.old.now c.requires.len.1 c.sweep.ensures.grew c.sweep.ensures.swept c.sweep-2.ensures.grew c.sweep-2.ensures.swept;
-    }
+  grew = grew_trans c.sweep.ensures.grew c.sweep-2.ensures.grew;
+  clean = clean-pass c.requires.given c.args.old.now c.requires.len.1 c.sweep.ensures.grew c.sweep.ensures.swept c.sweep-2.ensures.grew c.sweep-2.ensures.swept;
+}

@@ -1,6 +1,4 @@
 -- What live senders send to p is asked of a receiver that hears what p does.
-use borrow.Author.Tests.{not-false}
-use borrow.Author.Rules.{rules}
 use Rattle.pairs.specs.Pairs.{setting}
 use Rattle.mending.specs.Growing.{RuleThree}
 use Rattle.mending.proofs.Growth.{grew_same, grew_by}

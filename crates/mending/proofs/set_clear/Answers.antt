@@ -1,6 +1,5 @@
 -- None may come, or the arguments say it.
 use mathlib.Core.Path.{sym, ◌∙◌}
-use borrow.Author.Tests.{not-true, not-false}
 use Rattle.mending.proofs.set_clear.Goals as goal
 
 pub may_come-requires : goal.may_come-requires

@@ -1,12 +1,10 @@
 -- A node without figures asks for nothing; a receiver that is clear is noted, also after what was sent to it went to all alike.
 use mathlib.Core.Path.{◌≡◌, sym, ◌∙◌}
 use mathlib.Core.Bool.{true}
-use borrow.Author.Rules.{rules}
 use native.Mathlib.Omega.{arith}
 use Rattle.records.specs.Record.{node_of}
 use Rattle.records.specs.Kinds.{is_receiver}
-use Rattle.pairs.specs.declared.Side.{Side}
-use Rattle.pairs.specs.Pairs.{Setting, Held, setting}
+use Rattle.pairs.specs.Pairs.{Held, setting}
 use Rattle.filter.proofs.Laws.{receives-figures}
 use Rattle.mending.proofs.Growth.{grew_same}
 use Rattle.mending.proofs.Noting.{given-again}
@@ -26,15 +24,15 @@ node_at-requires c = (omega (arith, c.requires.given.0.read.fills), c.requires.g
 
 pub returns-then-figures-eq0 : goal.returns-then-figures-eq0
 returns-then-figures-eq0 c = record {
-      grew = grew_same _ _ _;
-      node_noted = λ e chosen large. idle-node (let x = c.args in setting x.file.now x.t x.balances x.rows.now x.loads.now x.bounds.now) (held (goal.at.returns-then-figures-eq0 c).After-node_at) _ chosen _ c.args.on (sym c.figures.ensures ∙ c.if-figures-eq0.true);
-    }
+  grew = grew_same _ _ _;
+  node_noted = λ e chosen large. idle-node (let x = c.args in setting x.file.now x.t x.balances x.rows.now x.loads.now x.bounds.now) (held (goal.at.returns-then-figures-eq0 c).After-node_at) _ chosen _ c.args.on (sym c.figures.ensures ∙ c.if-figures-eq0.true);
+}
 
 pub receiver_clear-requires : goal.receiver_clear-requires
 receiver_clear-requires c = record {
-      reach_len = (c.requires.given.2, c.requires.large_len.0, c.requires.large_len.1, c.requires.given.0.lists.many_rows);
-      name_bound = channel-there c.requires.given.0 (held (goal.at.receiver_clear-requires c).After-node_at) (receiver (goal.at.receiver_clear-requires c).Else-figures-eq0);
-    }
+  reach_len = (c.requires.given.2, c.requires.large_len.0, c.requires.large_len.1, c.requires.given.0.lists.many_rows);
+  name_bound = channel-there c.requires.given.0 (held (goal.at.receiver_clear-requires c).After-node_at) (receiver (goal.at.receiver_clear-requires c).Else-figures-eq0);
+}
 
 pub returns-then-receiver_clear : goal.returns-then-receiver_clear
 returns-then-receiver_clear c =
@@ -46,10 +44,10 @@ returns-then-receiver_clear c =
 
 pub mend_alike-requires : goal.mend_alike-requires
 mend_alike-requires c = record {
-      given = (c.requires.given.0, c.requires.given.1);
-      reads = (held (goal.at.mend_alike-requires c).After-node_at, receiver (goal.at.mend_alike-requires c).Else-figures-eq0);
-      by_index = c.requires.large_len.2;
-    }
+  given = (c.requires.given.0, c.requires.given.1);
+  reads = (held (goal.at.mend_alike-requires c).After-node_at, receiver (goal.at.mend_alike-requires c).Else-figures-eq0);
+  by_index = c.requires.large_len.2;
+}
 
 pub receiver_clear-requires-2 : goal.receiver_clear-requires-2
 receiver_clear-requires-2 c =

@@ -1,15 +1,12 @@
-use Prim.Native.Nat.{ℕ, ◌-◌}
-use lib.ListN.{length}
-use mathlib.Core.Path.{◌≡◌, ◌∙◌}
-use mathlib.Core.List.{List}
+use Prim.Native.Nat.{◌-◌}
+use mathlib.Core.Path.{◌∙◌}
 use borrow.Author.Rules.{rules}
 use native.Mathlib.Omega.{arith}
 use Rattle.records.proofs.KindLaws.{receiver-is}
 use Rattle.arrays.specs.Agents.{Reads}
 use Rattle.arrays.proofs.Agents.{small-arity}
-use Rattle.pairs.specs.Pairs.{Given, setting}
+use Rattle.pairs.specs.Pairs.{setting}
 use Rattle.pairs.proofs.Laws.{name-row}
-use Rattle.mending.specs.Growing.{Grew, Only, RuleThree}
 use Rattle.mending.proofs.Growth.{grew_same, grew_trans}
 use Rattle.mending.proofs.Noting.{given-again, only-grew}
 use Rattle.mending.proofs.spread.Goals as goal
@@ -36,8 +33,7 @@ send_on-requires c =
 pub loop-i-preserved : goal.loop-i-preserved
 loop-i-preserved c =
     let x = c.args in
-    let l = c.loop-i in
-    (
+    let l = c.loop-i in (
       c.send_on.auto.rows ∙ l.invariant.0,
       c.send_on.auto.names ∙ l.invariant.1,
       λ bounds g only.

@@ -1,18 +1,10 @@
 -- The receivers passed so far got nothing that rows which meet rule 3 can do without.
 use Prim.Native.Nat.{ℕ, ◌-◌}
 use lib.ListN.{length}
-use mathlib.Core.Path.{◌≡◌, ◌∙◌}
+use mathlib.Core.Path.{◌≡◌}
 use mathlib.Core.List.{List}
-use borrow.Author.Rules.{rules}
-use native.Mathlib.Omega.{arith}
-use Rattle.records.proofs.KindLaws.{receiver-is}
-use Rattle.arrays.specs.Agents.{Reads}
-use Rattle.arrays.proofs.Agents.{small-arity}
 use Rattle.pairs.specs.Pairs.{Given, setting}
-use Rattle.pairs.proofs.Laws.{name-row}
 use Rattle.mending.specs.Growing.{Grew, Only, RuleThree}
-use Rattle.mending.proofs.Growth.{grew_same, grew_trans}
-use Rattle.mending.proofs.Noting.{given-again, only-grew}
 use Rattle.mending.proofs.spread.Given as goal
 
 abbrev pub invariant-loop-i : goal.invariant-loop-i

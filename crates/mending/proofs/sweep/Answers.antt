@@ -1,6 +1,5 @@
 -- What large sets settle, and the rest by small ones.
 use mathlib.Core.Path.{refl, ◌∙◌}
-use borrow.Author.Rules.{rules}
 use native.Mathlib.Omega.{arith}
 use Rattle.mending.proofs.Growth.{grew_trans}
 use Rattle.mending.proofs.Noting.{given-again}
@@ -8,9 +7,9 @@ use Rattle.mending.proofs.sweep.Goals as goal
 
 pub sweep_large-from-requires : goal.sweep_large-from-requires
 sweep_large-from-requires c = record {
-      given = c.requires;
-      large_len = (refl, refl);
-    }
+  given = c.requires;
+  large_len = (refl, refl);
+}
 
 pub sweep_small-requires : goal.sweep_small-requires
 sweep_small-requires c =
@@ -31,9 +30,9 @@ shape_of-names-then-from-t c =
 
 pub returns-then-from-t : goal.returns-then-from-t
 returns-then-from-t c = record {
-      grew = grew_trans c.sweep_large-from.ensures.upper_bound.1 c.sweep_small.ensures.grew;
-      swept = c.sweep_small.ensures.swept_2;
-    }
+  grew = grew_trans c.sweep_large-from.ensures.upper_bound.1 c.sweep_small.ensures.grew;
+  swept = c.sweep_small.ensures.swept_2;
+}
 
 pub shape_of-rows-else-from-t : goal.shape_of-rows-else-from-t
 shape_of-rows-else-from-t c = c.sweep_large-from.ensures.upper_bound.1.size

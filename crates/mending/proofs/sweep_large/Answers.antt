@@ -1,11 +1,8 @@
-use Prim.Native.Nat.{◌≤◌, ◌-◌}
+use Prim.Native.Nat.{◌-◌}
 use mathlib.Core.Path.{sym, ◌∙◌}
-use borrow.Author.Tests.{not-false}
 use borrow.Author.Rules.{rules}
 use native.Mathlib.Omega.{arith}
-use Rattle.pairs.specs.Pairs.{setting}
 use Rattle.filter.proofs.Laws.{empty-room}
-use Rattle.mending.specs.Growing.{Grew, RuleThree, Swept}
 use Rattle.mending.proofs.Growth.{grew_same, grew_trans}
 use Rattle.mending.proofs.Noting.{given-again}
 use Rattle.mending.proofs.Skipping.{stale-now, large-grew, swept-grew, swept-more}
@@ -13,9 +10,9 @@ use Rattle.mending.proofs.sweep_large.Goals as goal
 
 pub gather-requires : goal.gather-requires
 gather-requires c = record {
-      by_index = (c.args.bounds.now, c.requires.given.0);
-      room = (record { needs = empty-room.needs; unions = c.requires.large_len.0; arities = c.requires.large_len.1; half = empty-room.half }, search rules, c.requires.given.3);
-    }
+  by_index = (c.args.bounds.now, c.requires.given.0);
+  room = (record { needs = empty-room.needs; unions = c.requires.large_len.0; arities = c.requires.large_len.1; half = empty-room.half }, search rules, c.requires.given.3);
+}
 
 pub loop-i-init : goal.loop-i-init
 loop-i-init c = (omega arith, grew_same _ _ _, λ i h. absurd (omega (arith, h)))

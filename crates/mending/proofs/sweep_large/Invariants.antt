@@ -1,15 +1,7 @@
 -- The nodes passed so far are noted beside the senders that were gathered at the start, by sets by arity.
 use Prim.Native.Nat.{◌≤◌, ◌-◌}
-use mathlib.Core.Path.{sym, ◌∙◌}
-use borrow.Author.Tests.{not-false}
-use borrow.Author.Rules.{rules}
-use native.Mathlib.Omega.{arith}
 use Rattle.pairs.specs.Pairs.{setting}
-use Rattle.filter.proofs.Laws.{empty-room}
 use Rattle.mending.specs.Growing.{Grew, RuleThree, Swept}
-use Rattle.mending.proofs.Growth.{grew_same, grew_trans}
-use Rattle.mending.proofs.Noting.{given-again}
-use Rattle.mending.proofs.Skipping.{stale-now, large-grew, swept-grew, swept-more}
 use Rattle.mending.proofs.sweep_large.Given as goal
 
 abbrev pub invariant-loop-i : goal.invariant-loop-i

@@ -1,10 +1,8 @@
-use Prim.Native.Nat.{◌≤◌, ◌-◌}
+use Prim.Native.Nat.{◌-◌}
 use mathlib.Core.Path.{◌∙◌}
 use borrow.Author.Rules.{rules}
 use native.Mathlib.Omega.{arith}
-use Rattle.pairs.specs.Pairs.{setting}
 use Rattle.filter.proofs.Laws.{empty-room}
-use Rattle.mending.specs.Growing.{Grew, RuleThree, Swept}
 use Rattle.mending.proofs.Growth.{grew_same, grew_trans}
 use Rattle.mending.proofs.Noting.{given-again}
 use Rattle.mending.proofs.Skipping.{stale-now, stale-grew, large-grew, swept-more}
@@ -12,9 +10,9 @@ use Rattle.mending.proofs.sweep_small.Goals as goal
 
 pub gather-requires : goal.gather-requires
 gather-requires c = record {
-      by_index = (c.args.bounds.now, c.requires.given.0);
-      room = (empty-room, search rules, c.requires.given.3);
-    }
+  by_index = (c.args.bounds.now, c.requires.given.0);
+  room = (empty-room, search rules, c.requires.given.3);
+}
 
 pub loop-i-init : goal.loop-i-init
 loop-i-init c =
@@ -33,8 +31,7 @@ loop-i-preserved c =
     let x = c.args in
     let l = c.loop-i in
     let a = l.invariant.1 in
-    let k = c.gather.ensures x.bounds.now in
-    (
+    let k = c.gather.ensures x.bounds.now in (
       omega (arith, c.loop-i-test.true),
       grew_trans a c.mend_node.ensures.grew,
       swept-more (given-again c.requires.given.0 a.size) l.names x.chosen.now x.reach.now x.on l.i l.invariant.2 c.mend_node.ensures.grew

@@ -1,5 +1,4 @@
 -- What `contained` ensures, at the rows of the two names.
-use borrow.Author.Rules.{rules}
 use Rattle.pairs.proofs.argument_holds.Goals as goal
 
 pub returns : goal.returns

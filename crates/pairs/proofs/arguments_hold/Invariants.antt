@@ -1,11 +1,8 @@
 -- The loop's flag says that rule 3 holds at the arguments passed.
 use Prim.Native.Nat.{◌≤◌, ◌-◌}
-use mathlib.Core.Path.{◌≡◌, sym}
+use mathlib.Core.Path.{◌≡◌}
 use Rattle.laws.specs.Search.{every}
-use Rattle.laws.proofs.Search.{every-zero, every-step}
 use Rattle.pairs.specs.Pairs.{argument_holds}
-use borrow.Author.Rules.{rules}
-use native.Mathlib.Omega.{arith}
 use Rattle.pairs.proofs.arguments_hold.Given as goal
 
 abbrev pub invariant-loop-n : goal.invariant-loop-n

@@ -1,5 +1,4 @@
 -- The need is worked out, and compared with what is given.
-use borrow.Author.Rules.{rules}
 use native.Mathlib.Omega.{arith}
 use Rattle.pairs.proofs.balance_holds.Goals as goal
 

@@ -1,6 +1,5 @@
-use Prim.Native.Nat.{◌≤◌, ◌-◌}
+use Prim.Native.Nat.{◌-◌}
 use mathlib.Core.Path.{◌≡◌, sym}
-use Rattle.laws.specs.Search.{every}
 use Rattle.laws.proofs.Search.{every-zero, every-step}
 use Rattle.pairs.specs.Pairs.{gives_to}
 use borrow.Author.Rules.{rules}

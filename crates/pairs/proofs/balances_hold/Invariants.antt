@@ -1,11 +1,8 @@
 -- The loop's flag says that rule 4 holds in the balances passed.
 use Prim.Native.Nat.{◌≤◌, ◌-◌}
-use mathlib.Core.Path.{◌≡◌, sym}
+use mathlib.Core.Path.{◌≡◌}
 use Rattle.laws.specs.Search.{every}
-use Rattle.laws.proofs.Search.{every-zero, every-step}
 use Rattle.pairs.specs.Pairs.{gives_to}
-use borrow.Author.Rules.{rules}
-use native.Mathlib.Omega.{arith}
 use Rattle.pairs.proofs.balances_hold.Given as goal
 
 abbrev pub invariant-loop-k : goal.invariant-loop-k

@@ -2,7 +2,6 @@
 use mathlib.Core.Path.{◌≡◌, sym, ◌∙◌}
 use mathlib.Core.Bool.{Bool, true, false, not, ◌&&◌, and-false, and-true}
 use Rattle.pairs.specs.Pairs.{live_by}
-use borrow.Author.Tests.{not-true, not-false}
 use Rattle.pairs.proofs.breaks.Goals as goal
 
 -- a rule that holds is not broken; one that fails is, where the pair is live

@@ -1,9 +1,8 @@
-use Prim.Native.Nat.{ℕ, ◌+◌, ◌-◌, ◌≤◌}
-use mathlib.Core.Path.{◌≡◌, sym, ap₂, ◌∙◌}
-use lib.ListN.{length, length-set}
-use Rattle.pairs.specs.Pairs.{gone_of, Differences}
+use Prim.Native.Nat.{ℕ, ◌+◌, ◌-◌}
+use mathlib.Core.Path.{sym, ap₂, ◌∙◌}
+use lib.ListN.{length-set}
+use Rattle.pairs.specs.Pairs.{gone_of}
 use Rattle.pairs.proofs.ByDifference.{differences-more}
-use borrow.Author.Rules.{rules}
 use native.Mathlib.Omega.{arith}
 use Rattle.pairs.proofs.differences.Goals as goal
 

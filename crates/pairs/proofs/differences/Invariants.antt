@@ -1,11 +1,8 @@
 -- The differences of the balances passed are there.
-use Prim.Native.Nat.{ℕ, ◌+◌, ◌-◌, ◌≤◌}
-use mathlib.Core.Path.{◌≡◌, sym, ap₂, ◌∙◌}
-use lib.ListN.{length, length-set}
-use Rattle.pairs.specs.Pairs.{gone_of, Differences}
-use Rattle.pairs.proofs.ByDifference.{differences-more}
-use borrow.Author.Rules.{rules}
-use native.Mathlib.Omega.{arith}
+use Prim.Native.Nat.{◌-◌, ◌≤◌}
+use mathlib.Core.Path.{◌≡◌}
+use lib.ListN.{length}
+use Rattle.pairs.specs.Pairs.{Differences}
 use Rattle.pairs.proofs.differences.Given as goal
 
 abbrev pub invariant-loop-k : goal.invariant-loop-k

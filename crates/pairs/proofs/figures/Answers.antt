@@ -1,7 +1,6 @@
 -- By the node's kind and the rule's number.
 use mathlib.Core.Path.{sym, ◌∙◌}
-use borrow.Author.Tests.{eq-eqb, ne_eqb, not-true, not-false}
-use borrow.Author.Rules.{rules}
+use borrow.Author.Tests.{eq-eqb, ne_eqb}
 use Rattle.pairs.proofs.figures.Goals as goal
 
 pub returns-then-not-receives : goal.returns-then-not-receives

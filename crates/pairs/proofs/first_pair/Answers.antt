@@ -1,16 +1,14 @@
 use Prim.Native.Nat.{◌-◌}
 use mathlib.Core.Path.{refl, sym, ◌∙◌, subst}
-use borrow.Author.Tests.{not-true, not-false}
 use Rattle.records.proofs.KindLaws.{receiver-is}
 use Rattle.arrays.proofs.Agents.{left_below}
 use Rattle.pairs.specs.declared.Place.{Place}
 use Rattle.pairs.specs.declared.Side.{Side}
-use Rattle.pairs.specs.Pairs.{Setting, setting, Held, DifferencesOf, SmallFigure}
+use Rattle.pairs.specs.Pairs.{setting, Held, SmallFigure}
 use Rattle.pairs.proofs.Laws.{name-row}
 use Rattle.pairs.proofs.ByDifference.{rooms-there, live-by}
-use Rattle.pairs.proofs.Search.{AtReceiver, AtSender, AtFigure, begin, nothing-row, row, nowhere, skip-pair}
+use Rattle.pairs.proofs.Search.{AtReceiver, AtSender, begin, nothing-row, row, nowhere, skip-pair}
 use Rattle.pairs.proofs.Search.{pair, figure-by, figure-there, next_row, pass, next-pair, found, small-figure}
-use borrow.Author.Rules.{rules}
 use native.Mathlib.Omega.{arith}
 use Rattle.pairs.proofs.first_pair.Goals as goal
 use Rattle.pairs.proofs.first_pair.Goals.{After-node_at, After-node_at-in-sender, Else-count-eq0}

@@ -1,17 +1,8 @@
 -- Nothing is found so far, at each of the three loops; each way through them is one law of proofs/Search. The differences are the receiver's.
 use Prim.Native.Nat.{◌-◌}
-use mathlib.Core.Path.{refl, sym, ◌∙◌, subst}
-use borrow.Author.Tests.{not-true, not-false}
-use Rattle.records.proofs.KindLaws.{receiver-is}
-use Rattle.arrays.proofs.Agents.{left_below}
-use Rattle.pairs.specs.declared.Side.{Side}
-use Rattle.pairs.specs.Pairs.{Setting, setting, Held, DifferencesOf, SmallFigure}
-use Rattle.pairs.proofs.Laws.{name-row}
-use Rattle.pairs.proofs.ByDifference.{rooms-there, live-by}
-use Rattle.pairs.proofs.Search.{AtReceiver, AtSender, AtFigure, begin, nothing-row, row, nowhere, skip-pair}
-use Rattle.pairs.proofs.Search.{pair, figure-by, figure-there, next_row, pass, next-pair, found, small-figure}
-use borrow.Author.Rules.{rules}
-use native.Mathlib.Omega.{arith}
+use Rattle.pairs.specs.Pairs.{setting, DifferencesOf}
+use Rattle.pairs.proofs.Search.{AtReceiver, AtSender, AtFigure}
+use Rattle.pairs.proofs.Search.{found}
 use Rattle.pairs.proofs.first_pair.Given as goal
 
 abbrev pub invariant-balance : goal.invariant-balance

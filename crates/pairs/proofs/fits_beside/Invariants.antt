@@ -1,11 +1,8 @@
 -- The loop's flag says that the sender fits in the balances passed.
 use Prim.Native.Nat.{◌≤◌, ◌-◌}
-use mathlib.Core.Path.{◌≡◌, sym}
+use mathlib.Core.Path.{◌≡◌}
 use Rattle.laws.specs.Search.{every}
-use Rattle.laws.proofs.Search.{every-zero, every-step}
 use Rattle.pairs.specs.Pairs.{fits_beside}
-use borrow.Author.Rules.{rules}
-use native.Mathlib.Omega.{arith}
 use Rattle.pairs.proofs.fits_beside.Given as goal
 
 abbrev pub invariant-loop-k : goal.invariant-loop-k

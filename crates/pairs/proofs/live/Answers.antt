@@ -1,6 +1,5 @@
 -- The sides meet, and every balance bears both.
 use mathlib.Core.Path.{sym, ◌∙◌}
-use borrow.Author.Tests.{not-true, not-false}
 use Rattle.pairs.proofs.live.Goals as goal
 
 pub meet-requires : goal.meet-requires

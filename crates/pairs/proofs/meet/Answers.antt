@@ -1,8 +1,7 @@
 -- The tests one after another. Both sides are agents, so their channels have rows.
 use mathlib.Core.Path.{sym, ◌∙◌}
-use borrow.Author.Tests.{eq-eqb, ne_eqb, not-true, not-false}
+use borrow.Author.Tests.{eq-eqb, ne_eqb}
 use Rattle.records.proofs.KindLaws.{sender-is}
-use borrow.Author.Rules.{rules}
 use Rattle.pairs.proofs.meet.Goals as goal
 
 pub returns-then-not-sends : goal.returns-then-not-sends

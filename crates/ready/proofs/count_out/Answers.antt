@@ -1,7 +1,6 @@
 -- `ready::count_out` meets its contract: one more exactly where the thread sends.
 use native.Mathlib.Nat.{add-zero}
 use mathlib.Core.Path.{sym}
-use borrow.Author.Rules.{rules}
 use Rattle.laws.specs.Lists.{one}
 use Rattle.ready.proofs.count_out.Goals as goal
 

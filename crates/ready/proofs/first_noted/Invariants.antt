@@ -1,17 +1,10 @@
 -- `ready::first_noted` meets its contract. The loop's invariant: none of the first k noted senders is ready with receiver p.
 use Prim.Native.Nat.{ℕ, ◌-◌, ◌≤◌, ◌<◌}
-use native.Mathlib.Nat.{not-suc-le-zero}
-use native.Mathlib.Omega.{arith}
-use mathlib.Core.Path.{◌≡◌, sym, ap, ◌∙◌}
+use mathlib.Core.Path.{◌≡◌}
 use mathlib.Core.Bool.{false}
 use lib.Dec.{eqb}
 use lib.ListN.{get_or}
-use borrow.Author.Count.{below_more}
-use borrow.Author.Tests.{eq-eqb, ne_eqb}
-use borrow.Author.Rules.{rules}
-use Rattle.model.proofs.Memory.{slot}
 use Rattle.ready.specs.Ready.{act_at, meet}
-use Rattle.ready.proofs.Noted.{none-past, none_before}
 use Rattle.ready.proofs.first_noted.Given as goal
 
 abbrev pub invariant-loop-k : goal.invariant-loop-k

@@ -1,16 +1,14 @@
-use Prim.Native.Nat.{ℕ, ◌+◌, ◌*◌, ◌-◌, ◌≤◌}
+use Prim.Native.Nat.{ℕ, ◌+◌, ◌-◌}
 use native.Mathlib.Nat.{zero-mul}
 use native.Mathlib.Omega.{arith}
 use mathlib.Core.Path.{◌≡◌, refl, sym, ap, ◌∙◌, subst}
-use lib.ListN.{length}
 use borrow.Author.Rules.{rules}
-use Rattle.laws.specs.Search.{clear, first}
+use Rattle.laws.specs.Search.{first}
 use Rattle.laws.proofs.Search.{first-zero, first-pass, first-here}
-use Rattle.model.specs.Calculus.{Choices}
 use Rattle.model.specs.Memory.{try}
 use Rattle.model.proofs.Memory.{slot, next-slot}
 use Rattle.ready.specs.declared.Act.{Act}
-use Rattle.ready.specs.Ready.{FirstSender, Noted, first_meeting}
+use Rattle.ready.specs.Ready.{FirstSender, first_meeting}
 use Rattle.ready.proofs.Laws.{row, act-here, agent-place, row-hit, row-clear}
 use Rattle.ready.proofs.Noted.{noted-none}
 use Rattle.ready.proofs.first_ready.Goals as goal

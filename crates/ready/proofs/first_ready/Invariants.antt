@@ -1,19 +1,11 @@
 -- `ready::first_ready` meets its contract. The loop's invariant: none of the first r threads is ready with any sender.
-use Prim.Native.Nat.{ℕ, ◌+◌, ◌*◌, ◌-◌, ◌≤◌}
-use native.Mathlib.Nat.{zero-mul}
-use native.Mathlib.Omega.{arith}
-use mathlib.Core.Path.{◌≡◌, refl, sym, ap, ◌∙◌, subst}
+use Prim.Native.Nat.{◌+◌, ◌*◌, ◌-◌, ◌≤◌}
+use mathlib.Core.Path.{◌≡◌}
 use lib.ListN.{length}
-use borrow.Author.Rules.{rules}
 use Rattle.laws.specs.Search.{clear, first}
-use Rattle.laws.proofs.Search.{first-zero, first-pass, first-here}
 use Rattle.model.specs.Calculus.{Choices}
-use Rattle.model.specs.Memory.{try}
-use Rattle.model.proofs.Memory.{slot, next-slot}
-use Rattle.ready.specs.declared.Act.{Act}
-use Rattle.ready.specs.Ready.{FirstSender, Noted, first_meeting}
-use Rattle.ready.proofs.Laws.{row, act-here, agent-place, row-hit, row-clear}
-use Rattle.ready.proofs.Noted.{noted-none}
+use Rattle.ready.specs.Ready.{Noted}
+use Rattle.ready.proofs.Laws.{row}
 use Rattle.ready.proofs.first_ready.Given as goal
 
 abbrev pub invariant-loop-r : goal.invariant-loop-r

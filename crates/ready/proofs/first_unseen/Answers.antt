@@ -1,4 +1,4 @@
-use Prim.Native.Nat.{ℕ, ◌+◌, ◌-◌, ◌≤◌, ◌<◌}
+use Prim.Native.Nat.{ℕ, ◌+◌, ◌-◌, ◌<◌}
 use native.Mathlib.Omega.{arith}
 use mathlib.Core.Path.{◌≡◌, sym, ap, ◌∙◌, subst}
 use mathlib.Core.Bool.{false}
@@ -8,7 +8,7 @@ use borrow.Author.Count.{below_more}
 use borrow.Author.Tests.{eq-eqb, ne_eqb}
 use borrow.Author.Rules.{rules}
 use Rattle.model.proofs.Memory.{slot}
-use Rattle.ready.specs.Ready.{act_at, meet, NoneReady, Noted}
+use Rattle.ready.specs.Ready.{act_at, meet, Noted}
 use Rattle.ready.proofs.Noted.{noted_more}
 use Rattle.ready.proofs.first_unseen.Goals as goal
 use Rattle.ready.proofs.first_unseen.Goals.{After-meets}

@@ -1,16 +1,8 @@
 -- `ready::first_unseen` meets its contract. The loop's invariant: none of the first s threads is ready with receiver p, and those that send are noted.
-use Prim.Native.Nat.{ℕ, ◌+◌, ◌-◌, ◌≤◌, ◌<◌}
-use native.Mathlib.Omega.{arith}
-use mathlib.Core.Path.{◌≡◌, sym, ap, ◌∙◌, subst}
-use mathlib.Core.Bool.{false}
-use lib.Dec.{eqb}
-use lib.ListN.{length, set, length-set}
-use borrow.Author.Count.{below_more}
-use borrow.Author.Tests.{eq-eqb, ne_eqb}
-use borrow.Author.Rules.{rules}
-use Rattle.model.proofs.Memory.{slot}
-use Rattle.ready.specs.Ready.{act_at, meet, NoneReady, Noted}
-use Rattle.ready.proofs.Noted.{noted_more}
+use Prim.Native.Nat.{◌-◌, ◌≤◌}
+use mathlib.Core.Path.{◌≡◌}
+use lib.ListN.{length}
+use Rattle.ready.specs.Ready.{NoneReady, Noted}
 use Rattle.ready.proofs.first_unseen.Given as goal
 
 abbrev pub invariant-loop-s : goal.invariant-loop-s

@@ -2,7 +2,7 @@
 use mathlib.Core.Bool.{not, ◌&&◌}
 use lib.Dec.{eqb}
 use native.Mathlib.Omega.{arith}
-use borrow.Author.Tests.{not-true, not-false, eq-eqb, ne_eqb}
+use borrow.Author.Tests.{eq-eqb, ne_eqb}
 use Rattle.ready.specs.Ready.{meet}
 use Rattle.ready.proofs.meets.Goals as goal
 

@@ -1,13 +1,10 @@
 -- Rules 1 and 2, then the others, each where the one before it is held.
 use mathlib.Core.Path.{◌≡◌, sym, ◌∙◌}
-use borrow.Author.Tests.{not-true, not-false}
-use Rattle.model.specs.Tree.{Array}
-use Rattle.model.specs.Rules.{Table, check1, check2, verdict}
+use Rattle.model.specs.Rules.{check1, check2, verdict}
 use Rattle.records.specs.Record.{array_of}
 use Rattle.pairs.specs.Pairs.{list_table}
 use Rattle.rules.specs.Ruling.{ruled, claimed}
 use Rattle.rules.proofs.Laws.{ends, goes_on, rule-one, rule-two}
-use borrow.Author.Rules.{rules}
 use native.Mathlib.Omega.{arith}
 use Rattle.rules.proofs.all_rules.Goals as goal
 use Rattle.rules.proofs.all_rules.Goals.{After-first_rule-first, After-second_rule-second}

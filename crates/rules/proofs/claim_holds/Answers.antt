@@ -1,7 +1,6 @@
 -- A weight below 2^31 times at most 2^16, since `most` is a 16-bit number, fits 64 bits.
 use Prim.Native.Nat.{◌+◌}
 use native.Mathlib.Nat.{mul-le-mul}
-use borrow.Author.Rules.{rules}
 use native.Mathlib.Omega.{arith}
 use Rattle.rules.proofs.claim_holds.Goals as goal
 

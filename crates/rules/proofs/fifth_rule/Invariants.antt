@@ -1,15 +1,9 @@
 -- The loop's invariant: every claim passed holds alone.
 use Prim.Native.Nat.{ℕ, ◌≤◌, ◌<◌, ◌-◌}
-use native.Mathlib.Nat.{eq-or-lt_of_le}
-use mathlib.Core.Path.{◌≡◌, sym, ap, ◌∙◌, subst}
-use mathlib.Core.Logic.{⊎_elim}
-use mathlib.Core.Bool.{Bool, true}
-use borrow.Author.Tests.{not-true, not-false}
+use mathlib.Core.Path.{◌≡◌}
+use mathlib.Core.Bool.{true}
 use Rattle.layout.specs.Table.{table_of}
 use Rattle.rules.specs.Ruling.{claim_holds}
-use Rattle.rules.proofs.Unmet.{all-met, set-unmet}
-use borrow.Author.Rules.{rules}
-use native.Mathlib.Omega.{arith}
 use Rattle.rules.proofs.fifth_rule.Given as goal
 
 abbrev pub invariant-loop-c : goal.invariant-loop-c

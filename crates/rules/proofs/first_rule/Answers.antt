@@ -1,13 +1,10 @@
-use Prim.Native.Nat.{◌≤◌, ◌-◌}
+use Prim.Native.Nat.{◌-◌}
 use mathlib.Core.Path.{◌≡◌, sym, ap₂, ◌∙◌}
 use mathlib.Core.Bool.{Bool, not, ◌||◌}
-use borrow.Author.Tests.{not-true, not-false}
-use Rattle.laws.specs.Search.{clear}
 use Rattle.laws.proofs.Search.{first-zero}
 use Rattle.records.specs.Record.{array_of}
-use Rattle.rules.specs.Ruling.{rule_below, own_marked}
+use Rattle.rules.specs.Ruling.{own_marked}
 use Rattle.rules.proofs.Laws.{rule-passes, rule-stops}
-use borrow.Author.Rules.{rules}
 use native.Mathlib.Omega.{arith}
 use Rattle.rules.proofs.first_rule.Goals as goal
 use Rattle.rules.proofs.first_rule.Goals.{After-is_marked-own}

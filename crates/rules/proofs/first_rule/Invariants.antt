@@ -1,15 +1,9 @@
 -- The loop's invariant: the test by marks finds nothing at the names passed. `opened` marks the names that news open.
 use Prim.Native.Nat.{◌≤◌, ◌-◌}
-use mathlib.Core.Path.{◌≡◌, sym, ap₂, ◌∙◌}
-use mathlib.Core.Bool.{Bool, not, ◌||◌}
-use borrow.Author.Tests.{not-true, not-false}
+use mathlib.Core.Path.{◌≡◌}
 use Rattle.laws.specs.Search.{clear}
-use Rattle.laws.proofs.Search.{first-zero}
 use Rattle.records.specs.Record.{array_of}
 use Rattle.rules.specs.Ruling.{rule_below, own_marked}
-use Rattle.rules.proofs.Laws.{rule-passes, rule-stops}
-use borrow.Author.Rules.{rules}
-use native.Mathlib.Omega.{arith}
 use Rattle.rules.proofs.first_rule.Given as goal
 
 abbrev pub invariant-loop-o : goal.invariant-loop-o

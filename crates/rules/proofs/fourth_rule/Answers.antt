@@ -4,7 +4,6 @@ use Rattle.records.specs.Record.{array_of}
 use Rattle.pairs.specs.Pairs.{list_table, placed}
 use Rattle.model.specs.Rules.{check4}
 use Rattle.rules.proofs.Laws.{pairs-four}
-use borrow.Author.Rules.{rules}
 use Rattle.rules.proofs.fourth_rule.Goals as goal
 use Rattle.rules.proofs.fourth_rule.Goals.{After-first_pair}
 

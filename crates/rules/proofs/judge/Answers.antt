@@ -26,9 +26,9 @@ flow_rows-requires c =
 
 pub fill_lists-requires : goal.fill_lists-requires
 fill_lists-requires c = record {
-      read = c.requires;
-      loads_len = (refl, refl);
-    }
+  read = c.requires;
+  loads_len = (refl, refl);
+}
 
 pub all_rules-requires : goal.all_rules-requires
 all_rules-requires c =

@@ -1,13 +1,10 @@
 -- Rules 3, 4 and 5, each where the one before it is held.
 use mathlib.Core.Path.{◌≡◌, sym, ◌∙◌}
-use borrow.Author.Tests.{not-true, not-false}
-use Rattle.model.specs.Tree.{Array}
-use Rattle.model.specs.Rules.{Table, check3, check4}
+use Rattle.model.specs.Rules.{check3, check4}
 use Rattle.records.specs.Record.{array_of}
 use Rattle.pairs.specs.Pairs.{list_table}
 use Rattle.rules.specs.Ruling.{ruled, claimed}
 use Rattle.rules.proofs.Laws.{ends, goes_on, rule-three, rule-four, rule-five}
-use borrow.Author.Rules.{rules}
 use Rattle.rules.proofs.later_rules.Goals as goal
 use Rattle.rules.proofs.later_rules.Goals.{After-fourth_rule-fourth, After-third_rule-third}
 

@@ -1,14 +1,11 @@
 use Rattle.std.proofs.lemmas.Bool.{lt-leb, le-leb}
-use Prim.Native.Nat.{ℕ, ◌≤◌, ◌-◌}
+use Prim.Native.Nat.{ℕ, ◌-◌}
 use mathlib.Core.Path.{◌≡◌, sym, ap, ◌∙◌}
 use lib.Dec.{leb}
 use lib.ListN.{get_or}
-use borrow.Author.Tests.{not-true, not-false}
-use Rattle.laws.specs.Search.{clear}
 use Rattle.laws.proofs.Search.{first-zero}
-use Rattle.rules.specs.Ruling.{rule_below, root_fits}
+use Rattle.rules.specs.Ruling.{root_fits}
 use Rattle.rules.proofs.Laws.{rule-passes, rule-stops}
-use borrow.Author.Rules.{rules}
 use native.Mathlib.Omega.{arith}
 use Rattle.rules.proofs.second_rule.Goals as goal
 

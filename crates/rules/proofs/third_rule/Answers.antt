@@ -4,7 +4,6 @@ use Rattle.records.specs.Record.{array_of}
 use Rattle.pairs.specs.Pairs.{list_table, placed, SmallFigure}
 use Rattle.model.specs.Rules.{check3}
 use Rattle.rules.proofs.Laws.{pairs-three, place-three}
-use borrow.Author.Rules.{rules}
 use native.Mathlib.Omega.{arith}
 use Rattle.rules.proofs.third_rule.Goals as goal
 use Rattle.rules.proofs.third_rule.Goals.{After-first_pair}

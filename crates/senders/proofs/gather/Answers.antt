@@ -1,4 +1,4 @@
-use Prim.Native.Nat.{ℕ, ◌≤◌, ◌<◌, ◌-◌}
+use Prim.Native.Nat.{ℕ, ◌<◌, ◌-◌}
 use mathlib.Core.Path.{◌≡◌, refl, sym, ap, ◌∙◌}
 use mathlib.Core.Bool.{true}
 use lib.ListN.{length, length-replicate}
@@ -6,10 +6,9 @@ use Rattle.laws.proofs.Search.{and_split}
 use Rattle.model.specs.Memory.{is_out}
 use Rattle.records.specs.Record.{node_of, RecordsFit}
 use Rattle.arrays.specs.Agents.{Reads}
-use Rattle.senders.specs.Sets.{Askable, family}
+use Rattle.senders.specs.Sets.{Askable}
 use Rattle.senders.proofs.Laws.{askable}
-use Rattle.senders.proofs.Gathering.{GatheredTo, gathered_none, gathered-more, gathered-all}
-use borrow.Author.Rules.{rules}
+use Rattle.senders.proofs.Gathering.{gathered_none, gathered-more, gathered-all}
 use native.Mathlib.Omega.{arith}
 use Rattle.senders.proofs.gather.Goals as goal
 use Rattle.senders.proofs.gather.Goals.{After-node_at}
@@ -42,18 +41,18 @@ sender c e = askable c.requires.by_index.1 (lies c).1 e
 
 pub sends_by-on-requires : goal.sends_by-on-requires
 sends_by-on-requires c = record {
-      names_len = (c.requires.room.2, (lies (goal.at.sends_by-on-requires c).After-node_at).0, (lies (goal.at.sends_by-on-requires c).After-node_at).1);
-      name_bound = λ e. (omega (arith, (sender (goal.at.sends_by-on-requires c).After-node_at e).name, c.requires.by_index.1.lists.many_rows), (sender (goal.at.sends_by-on-requires c).After-node_at e).sent.few);
-    }
+  names_len = (c.requires.room.2, (lies (goal.at.sends_by-on-requires c).After-node_at).0, (lies (goal.at.sends_by-on-requires c).After-node_at).1);
+  name_bound = λ e. (omega (arith, (sender (goal.at.sends_by-on-requires c).After-node_at e).name, c.requires.by_index.1.lists.many_rows), (sender (goal.at.sends_by-on-requires c).After-node_at e).sent.few);
+}
 
 pub set_of-g-requires : goal.set_of-g-requires
 set_of-g-requires c = c.loop-i.invariant.1
 
 pub join_sender-requires : goal.join_sender-requires
 join_sender-requires c = record {
-      room = (c.loop-i.invariant.2.room, c.set_of-g.ensures);
-      records_fit = ((lies (goal.at.join_sender-requires c).After-node_at).0, (lies (goal.at.join_sender-requires c).After-node_at).1, λ e. sender (goal.at.join_sender-requires c).After-node_at (and_split _ _ (sym c.sends_by-on.ensures ∙ e)).0);
-    }
+  room = (c.loop-i.invariant.2.room, c.set_of-g.ensures);
+  records_fit = ((lies (goal.at.join_sender-requires c).After-node_at).0, (lies (goal.at.join_sender-requires c).After-node_at).1, λ e. sender (goal.at.join_sender-requires c).After-node_at (and_split _ _ (sym c.sends_by-on.ensures ∙ e)).0);
+}
 
 pub link_if-requires : goal.link_if-requires
 link_if-requires c =

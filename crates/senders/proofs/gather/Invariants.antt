@@ -1,17 +1,9 @@
 -- The senders below node i are gathered: node i is put into the set that is chosen for it.
-use Prim.Native.Nat.{ℕ, ◌≤◌, ◌<◌, ◌-◌}
-use mathlib.Core.Path.{◌≡◌, refl, sym, ap, ◌∙◌}
-use mathlib.Core.Bool.{true}
-use lib.ListN.{length, length-replicate}
-use Rattle.laws.proofs.Search.{and_split}
-use Rattle.model.specs.Memory.{is_out}
-use Rattle.records.specs.Record.{node_of, RecordsFit}
-use Rattle.arrays.specs.Agents.{Reads}
-use Rattle.senders.specs.Sets.{Askable, family}
-use Rattle.senders.proofs.Laws.{askable}
-use Rattle.senders.proofs.Gathering.{GatheredTo, gathered_none, gathered-more, gathered-all}
-use borrow.Author.Rules.{rules}
-use native.Mathlib.Omega.{arith}
+use Prim.Native.Nat.{◌≤◌, ◌-◌}
+use mathlib.Core.Path.{◌≡◌}
+use lib.ListN.{length}
+use Rattle.senders.specs.Sets.{family}
+use Rattle.senders.proofs.Gathering.{GatheredTo}
 use Rattle.senders.proofs.gather.Given as goal
 
 abbrev pub invariant-loop-i : goal.invariant-loop-i

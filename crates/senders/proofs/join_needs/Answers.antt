@@ -1,12 +1,10 @@
-use Prim.Native.Nat.{ℕ, ◌≤◌, ◌<◌, ◌-◌}
+use Prim.Native.Nat.{◌≤◌, ◌<◌, ◌-◌}
 use native.Mathlib.Nat.{le_trans}
 use lib.ListN.{length, set}
 use borrow.Author.Count.{below_more}
 use Rattle.loads.specs.Loads.{entry_index, load_in}
 use Rattle.pairs.specs.Pairs.{need_of}
-use Rattle.senders.specs.Sets.{NeedsGrow}
 use Rattle.senders.proofs.Laws.{needs-same, needs-trans, needs-set, entry_here}
-use borrow.Author.Rules.{rules}
 use native.Mathlib.Omega.{arith}
 use Rattle.senders.proofs.join_needs.Goals as goal
 use Rattle.senders.proofs.join_needs.Goals.{After-entry-at}

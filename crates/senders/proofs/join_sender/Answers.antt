@@ -3,12 +3,10 @@ use Prim.Native.Nat.{◌/◌, ◌<◌}
 use mathlib.Core.Path.{◌≡◌, sym, ap, ◌∙◌}
 use mathlib.Core.Bool.{true, true≢false}
 use lib.ListN.{length}
-use borrow.Author.Tests.{not-true, not-false}
 use Rattle.marks.specs.Marks.{mark_if}
 use Rattle.marks.proofs.Laws.{mark_if-length, join-adds}
 use Rattle.senders.specs.Sets.{Askable, arity_mark}
 use Rattle.senders.proofs.Laws.{grown-same, rows-trans, rows-joined, rows-keep, mark-keeps, mark-adds}
-use borrow.Author.Rules.{rules}
 use native.Mathlib.Omega.{arith}
 use Rattle.senders.proofs.join_sender.Goals as goal
 use Rattle.senders.proofs.join_sender.Goals.{After-mark_if, Else-not-on}
@@ -28,9 +26,9 @@ fits c = omega (arith, c.requires.room.0.arities, c.requires.room.1, (asked c).s
 
 pub returns-then-not-on : goal.returns-then-not-on
 returns-then-not-on c = record {
-      grown = grown-same _;
-      kept_by = λ e. absurd (true≢false (sym e ∙ c.if-not-on.true));
-    }
+  grown = grown-same _;
+  kept_by = λ e. absurd (true≢false (sym e ∙ c.if-not-on.true));
+}
 
 pub arity_mark-requires : goal.arity_mark-requires
 arity_mark-requires c = (c.requires.room.1, (asked (goal.at.arity_mark-requires c).Else-not-on).sent.few)
@@ -44,9 +42,9 @@ join-requires c =
 
 pub join_figures-requires : goal.join_figures-requires
 join_figures-requires c = record {
-      needs_len = (c.requires.room.0.needs, c.requires.room.0.half, c.join.ensures.size ∙ c.requires.room.0.unions, c.requires.room.1);
-      sent_rows = ((asked (goal.at.join_figures-requires c).Else-not-on).sent, (asked (goal.at.join_figures-requires c).Else-not-on).needs, c.requires.records_fit.0, c.requires.records_fit.1);
-    }
+  needs_len = (c.requires.room.0.needs, c.requires.room.0.half, c.join.ensures.size ∙ c.requires.room.0.unions, c.requires.room.1);
+  sent_rows = ((asked (goal.at.join_figures-requires c).Else-not-on).sent, (asked (goal.at.join_figures-requires c).Else-not-on).needs, c.requires.records_fit.0, c.requires.records_fit.1);
+}
 
 pub shape_of-needs : goal.shape_of-needs
 shape_of-needs c = c.join_figures.ensures.needs_grow.0.size

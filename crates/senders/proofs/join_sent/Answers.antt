@@ -1,4 +1,4 @@
-use Prim.Native.Nat.{ℕ, ◌<◌, ◌-◌}
+use Prim.Native.Nat.{◌-◌}
 use mathlib.Core.Path.{◌≡◌, subst}
 use mathlib.Core.Bool.{true}
 use lib.ListN.{get_or}
@@ -7,9 +7,8 @@ use Rattle.marks.specs.Marks.{HasRow, inside}
 use Rattle.marks.proofs.Laws.{join-adds}
 use Rattle.records.specs.declared.Record.{Record}
 use Rattle.records.specs.Record.{record_of}
-use Rattle.senders.specs.Sets.{sent_row, RowsGrow}
+use Rattle.senders.specs.Sets.{sent_row}
 use Rattle.senders.proofs.Laws.{rows_same, rows-trans, rows-joined, rows-keep}
-use borrow.Author.Rules.{rules}
 use native.Mathlib.Omega.{arith}
 use Rattle.senders.proofs.join_sent.Goals as goal
 

@@ -1,17 +1,11 @@
 -- What is sent before argument m is kept, and each row keeps its marks.
 use Prim.Native.Nat.{ℕ, ◌<◌, ◌-◌}
-use mathlib.Core.Path.{◌≡◌, subst}
+use mathlib.Core.Path.{◌≡◌}
 use mathlib.Core.Bool.{true}
 use lib.ListN.{get_or}
-use borrow.Author.Count.{below_more}
-use Rattle.marks.specs.Marks.{HasRow, inside}
-use Rattle.marks.proofs.Laws.{join-adds}
-use Rattle.records.specs.declared.Record.{Record}
+use Rattle.marks.specs.Marks.{inside}
 use Rattle.records.specs.Record.{record_of}
 use Rattle.senders.specs.Sets.{sent_row, RowsGrow}
-use Rattle.senders.proofs.Laws.{rows_same, rows-trans, rows-joined, rows-keep}
-use borrow.Author.Rules.{rules}
-use native.Mathlib.Omega.{arith}
 use Rattle.senders.proofs.join_sent.Given as goal
 
 abbrev pub invariant-loop-m : goal.invariant-loop-m

@@ -1,7 +1,5 @@
 -- Two entries are written, or none.
 use lib.ListN.{length-set}
-use borrow.Author.Tests.{not-true, not-false}
-use borrow.Author.Rules.{rules}
 use native.Mathlib.Omega.{arith}
 use Rattle.senders.proofs.link_if.Goals as goal
 

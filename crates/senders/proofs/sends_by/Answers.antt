@@ -1,8 +1,6 @@
 -- By what it is, by its channel, then by what it sends.
 use mathlib.Core.Path.{◌≡◌, sym, ◌∙◌}
 use mathlib.Core.Bool.{true}
-use borrow.Author.Tests.{not-true, not-false}
-use borrow.Author.Rules.{rules}
 use native.Mathlib.Omega.{arith}
 use Rattle.model.specs.Memory.{is_out}
 use Rattle.records.specs.Record.{node_of}

@@ -1,7 +1,6 @@
-use Prim.Native.Nat.{◌≤◌, ◌-◌}
+use Prim.Native.Nat.{◌-◌}
 use mathlib.Core.Path.{◌≡◌, sym}
 use lib.ListN.{get_or}
-use Rattle.laws.specs.Search.{any}
 use Rattle.laws.proofs.Search.{any-zero, any_step}
 use Rattle.marks.specs.Marks.{marked}
 use Rattle.records.specs.Record.{record_of}

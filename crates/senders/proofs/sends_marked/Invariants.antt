@@ -1,13 +1,10 @@
 -- The loop's flag says that one of the arguments passed is marked.
 use Prim.Native.Nat.{◌≤◌, ◌-◌}
-use mathlib.Core.Path.{◌≡◌, sym}
+use mathlib.Core.Path.{◌≡◌}
 use lib.ListN.{get_or}
 use Rattle.laws.specs.Search.{any}
-use Rattle.laws.proofs.Search.{any-zero, any_step}
 use Rattle.marks.specs.Marks.{marked}
 use Rattle.records.specs.Record.{record_of}
-use borrow.Author.Rules.{rules}
-use native.Mathlib.Omega.{arith}
 use Rattle.senders.proofs.sends_marked.Given as goal
 
 abbrev pub invariant-loop-n : goal.invariant-loop-n

@@ -4,7 +4,6 @@ use native.Mathlib.Omega.{arith}
 use mathlib.Core.Path.{ap, ap₂, ◌∙◌}
 use mathlib.Core.List.{List, map}
 use lib.ListN.{get_or, take, drop}
-use borrow.Author.Rules.{rules}
 use Rattle.laws.proofs.Lists.{All-map}
 use Rattle.model.specs.Calculus.{bind}
 use Rattle.records.specs.Record.{args_of}

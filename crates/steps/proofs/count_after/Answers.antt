@@ -4,7 +4,6 @@ use native.Mathlib.Omega.{arith}
 use mathlib.Core.Path.{◌≡◌, ap, ◌∙◌}
 use mathlib.Core.Bool.{Bool, cond}
 use lib.ListN.{length}
-use borrow.Author.Rules.{rules}
 use Rattle.model.specs.Memory.{is_resource}
 use Rattle.records.specs.Record.{node_of}
 use Rattle.arrays.proofs.Agents.{left_below}
@@ -21,28 +20,26 @@ pub kept_count-kept-requires : goal.kept_count-kept-requires
 kept_count-kept-requires c = L.two-threads c.requires.prepared.1
 
 pub count_threads-mid-requires : goal.count_threads-mid-requires
-count_threads-mid-requires c =
-    (
-      c.requires.prepared.0,
-      record {
-        node = left_below c.requires.prepared.0.read c.requires.prepared.1.reads (L.receiver-agent c.requires.prepared.1);
-        marker = c.requires.prepared.2;
-        names = L.length-near c.requires.prepared.1 c.requires.bound c.args.choices.now c.args.marker;
-        few = omega (arith, stay (goal.at.count_threads-mid-requires c).After-kept_count-kept, c.requires.prepared.1.met.few);
-      },
-    )
+count_threads-mid-requires c = (
+  c.requires.prepared.0,
+  record {
+    node = left_below c.requires.prepared.0.read c.requires.prepared.1.reads (L.receiver-agent c.requires.prepared.1);
+    marker = c.requires.prepared.2;
+    names = L.length-near c.requires.prepared.1 c.requires.bound c.args.choices.now c.args.marker;
+    few = omega (arith, stay (goal.at.count_threads-mid-requires c).After-kept_count-kept, c.requires.prepared.1.met.few);
+  },
+)
 
 pub count_threads-requires : goal.count_threads-requires
-count_threads-requires c =
-    (
-      c.requires.prepared.0,
-      record {
-        node = left_below c.requires.prepared.0.read c.requires.prepared.1.other (L.sender-agent c.requires.prepared.1);
-        marker = omega (arith, c.requires.prepared.1.met.other, c.requires.prepared.1.met.listed);
-        names = L.length-far c.requires.prepared.1 c.requires.bound c.args.choices.now c.args.marker;
-        few = omega (arith, c.count_threads-mid.ensures.1);
-      },
-    )
+count_threads-requires c = (
+  c.requires.prepared.0,
+  record {
+    node = left_below c.requires.prepared.0.read c.requires.prepared.1.other (L.sender-agent c.requires.prepared.1);
+    marker = omega (arith, c.requires.prepared.1.met.other, c.requires.prepared.1.met.listed);
+    names = L.length-far c.requires.prepared.1 c.requires.bound c.args.choices.now c.args.marker;
+    few = omega (arith, c.count_threads-mid.ensures.1);
+  },
+)
 
 pub returns : goal.returns
 returns c =

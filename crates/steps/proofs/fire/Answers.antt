@@ -4,7 +4,6 @@ use native.Mathlib.Omega.{arith}
 use mathlib.Core.Path.{◌≡◌, sym, subst}
 use lib.ListN.{length, take, replicate}
 use lib.Seq.{length-take-le}
-use borrow.Author.Rules.{rules}
 use Rattle.steps.specs.declared.Meeting.{Meeting}
 use Rattle.steps.specs.Steps.{Meets, Makes}
 use Rattle.steps.proofs.Laws as L

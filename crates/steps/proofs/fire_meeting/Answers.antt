@@ -7,7 +7,6 @@ use mathlib.Core.Bool.{true}
 use mathlib.Core.List.{List}
 use lib.Dec.{leb}
 use lib.ListN.{length}
-use borrow.Author.Rules.{rules}
 use borrow.Author.Tests.{leb-true, le-leb, ltb-true}
 use Rattle.laws.specs.Lists.{put}
 use Rattle.model.specs.Calculus.{Config}
@@ -44,9 +43,9 @@ few-threads : (c : Else-not-threads_fit) → let x = c.args in
 few-threads c =
     let x = c.args in
     let total =
-        c.count_after-total.ensures.2
-        ∙ ap (λ (k : ℕ). min 257 (length (advanced x.file.now x.t x.choices.now x.threads.now x.counts.threads x.m k)))
-            c.marker_for-marker.ensures.number in
+    c.count_after-total.ensures.2
+    ∙ ap (λ (k : ℕ). min 257 (length (advanced x.file.now x.t x.choices.now x.threads.now x.counts.threads x.m k)))
+    c.marker_for-marker.ensures.number in
     few-enough x.t.names x.threads.now _ _ total (sym c.threads_fit.ensures ∙ c.if-not-threads_fit.false)
 
 few-markers : (c : Else-not-markers_fit) → leb c.marker_for-marker.result.markers (marker_room c.args.markers.now) ≡ true
@@ -116,8 +115,8 @@ returns c =
     let few = le-leb _ _ at.1 in
     let most = ap (λ (k : ℕ). leb k (marker_room ml)) (sym y.markers) ∙ listed in
     let words =
-        c.write_after.ensures
-        ∙ ap (λ (k : ℕ). put 0 (words_of (advanced x.file.now x.t x.choices.now l x.counts.threads x.m k)) l) y.number in
+    c.write_after.ensures
+    ∙ ap (λ (k : ℕ). put 0 (words_of (advanced x.file.now x.t x.choices.now l x.counts.threads x.m k)) l) y.number in
     let entries = c.add_if.ensures ∙ L.numbers-are ml x.counts c.requires.markers_bound.0 y (leb-true _ _ listed) in (
       L.leaves-both (array_of x.file.now x.t) l ml x.counts left (entries-left x.t l ml x.counts x.m) few most _ _ _ words at.0 entries y.markers,
       y.number,

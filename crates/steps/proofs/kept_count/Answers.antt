@@ -1,5 +1,4 @@
 -- By the branch.
-use borrow.Author.Rules.{rules}
 use Rattle.steps.proofs.kept_count.Goals as goal
 
 pub returns-then-resource : goal.returns-then-resource

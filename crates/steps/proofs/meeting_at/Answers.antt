@@ -1,6 +1,5 @@
 -- The records of the two threads' agents are read.
 use mathlib.Core.Path.{ap, ◌∙◌}
-use borrow.Author.Rules.{rules}
 use Rattle.records.specs.Record.{record_of}
 use Rattle.steps.proofs.meeting_at.Goals as goal
 

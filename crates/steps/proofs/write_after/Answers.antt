@@ -3,7 +3,6 @@ use Prim.Native.Nat.{◌-◌}
 use native.Mathlib.Omega.{arith}
 use mathlib.Core.Path.{◌≡◌, ap, ◌∙◌}
 use mathlib.Core.Bool.{Bool, cond}
-use borrow.Author.Rules.{rules}
 use Rattle.laws.specs.Lists.{put}
 use Rattle.model.specs.Calculus.{keep}
 use Rattle.model.specs.Memory.{threads_in, words_of, is_resource}
@@ -22,28 +21,26 @@ pub kept_count-kept-requires : goal.kept_count-kept-requires
 kept_count-kept-requires c = L.two-threads c.requires.prepared.1
 
 pub unfold_node-mid-requires : goal.unfold_node-mid-requires
-unfold_node-mid-requires c =
-    (
-      c.requires.prepared.0,
-      record {
-        node = left_below c.requires.prepared.0.read c.requires.prepared.1.reads (L.receiver-agent c.requires.prepared.1);
-        marker = c.requires.prepared.2;
-        names = L.length-near c.requires.prepared.1 c.requires.bound c.args.choices.now c.args.marker;
-        few = omega (arith, stay (goal.at.unfold_node-mid-requires c).After-kept_count-kept, c.requires.prepared.1.met.few);
-      },
-    )
+unfold_node-mid-requires c = (
+  c.requires.prepared.0,
+  record {
+    node = left_below c.requires.prepared.0.read c.requires.prepared.1.reads (L.receiver-agent c.requires.prepared.1);
+    marker = c.requires.prepared.2;
+    names = L.length-near c.requires.prepared.1 c.requires.bound c.args.choices.now c.args.marker;
+    few = omega (arith, stay (goal.at.unfold_node-mid-requires c).After-kept_count-kept, c.requires.prepared.1.met.few);
+  },
+)
 
 pub unfold_node-requires : goal.unfold_node-requires
-unfold_node-requires c =
-    (
-      c.requires.prepared.0,
-      record {
-        node = left_below c.requires.prepared.0.read c.requires.prepared.1.other (L.sender-agent c.requires.prepared.1);
-        marker = omega (arith, c.requires.prepared.1.met.other, c.requires.prepared.1.met.listed);
-        names = L.length-far c.requires.prepared.1 c.requires.bound c.args.choices.now c.args.marker;
-        few = omega (arith, c.unfold_node-mid.ensures.1.counted);
-      },
-    )
+unfold_node-requires c = (
+  c.requires.prepared.0,
+  record {
+    node = left_below c.requires.prepared.0.read c.requires.prepared.1.other (L.sender-agent c.requires.prepared.1);
+    marker = omega (arith, c.requires.prepared.1.met.other, c.requires.prepared.1.met.listed);
+    names = L.length-far c.requires.prepared.1 c.requires.bound c.args.choices.now c.args.marker;
+    few = omega (arith, c.unfold_node-mid.ensures.1.counted);
+  },
+)
 
 pub returns : goal.returns
 returns c =

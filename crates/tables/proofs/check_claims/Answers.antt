@@ -1,7 +1,6 @@
 -- Refusal 21, then 30 and 31, each where the one before it passes.
 use Rattle.records.proofs.Checks.{refuses, goes_on, passes}
 use Rattle.layout.proofs.Laws.{claims-lie}
-use borrow.Author.Rules.{rules}
 use Rattle.tables.proofs.check_claims.Goals as goal
 
 pub bad_claim-requires : goal.bad_claim-requires

@@ -1,10 +1,7 @@
 -- Refusals 14 and 15 by their tests, then the rest.
-use mathlib.Core.Bool.{◌&&◌}
-use lib.Dec.{leb}
-use borrow.Author.Tests.{eq-eqb, ne_eqb, not-true, not-false}
+use borrow.Author.Tests.{eq-eqb, ne_eqb}
 use Rattle.records.proofs.Checks.{fails, holds}
 use Rattle.tables.proofs.Laws.{counts-fit}
-use borrow.Author.Rules.{rules}
 use Rattle.tables.proofs.check_letters.Goals as goal
 
 pub returns-then-z-ne1 : goal.returns-then-z-ne1

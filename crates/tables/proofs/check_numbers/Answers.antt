@@ -1,6 +1,5 @@
 -- Refusal 20, and 21, 30 and 31 where it passes.
 use Rattle.records.proofs.Checks.{refuses, goes_on, passes}
-use borrow.Author.Rules.{rules}
 use Rattle.tables.proofs.check_numbers.Goals as goal
 
 pub returns-in-Refused : goal.returns-in-Refused

@@ -1,11 +1,10 @@
 -- Refusals 16 and 17 by their tests, then the rest over parts that fit.
 use mathlib.Core.Path.{◌≡◌, sym, ◌∙◌}
 use mathlib.Core.Bool.{true}
-use borrow.Author.Tests.{eq-eqb, ne_eqb, not-true, not-false}
+use borrow.Author.Tests.{eq-eqb, ne_eqb}
 use Rattle.layout.specs.Table.{parts_fit}
 use Rattle.records.proofs.Checks.{fails, holds}
 use Rattle.tables.proofs.Laws.{parts-fill}
-use borrow.Author.Rules.{rules}
 use Rattle.tables.proofs.check_parts.Goals as goal
 use Rattle.tables.proofs.check_parts.Goals.{Else-not-parts_fit}
 
@@ -22,19 +21,18 @@ returns-then-u32_at-word_sum c =
     (ne_eqb _ _ (λ e. c.if-u32_at-word_sum.true (c.u32_at.ensures ∙ e ∙ sym c.word_sum.ensures))))
 
 pub check_rows-requires : goal.check_rows-requires
-check_rows-requires c =
-    (
-      c.requires.records_fit.0,
-      c.requires.records_fit.1,
-      c.requires.records_fit.2,
-      record {
-        nodes = c.requires.nodes_value.0;
-        names = c.requires.nodes_value.1;
-        few_balances = c.requires.nodes_value.2;
-        few_claims = c.requires.nodes_value.3;
-        fills = parts-fill c.args.table.now c.args.z (fit (goal.at.check_rows-requires c).Else-not-parts_fit);
-      },
-    )
+check_rows-requires c = (
+  c.requires.records_fit.0,
+  c.requires.records_fit.1,
+  c.requires.records_fit.2,
+  record {
+    nodes = c.requires.nodes_value.0;
+    names = c.requires.nodes_value.1;
+    few_balances = c.requires.nodes_value.2;
+    few_claims = c.requires.nodes_value.3;
+    fills = parts-fill c.args.table.now c.args.z (fit (goal.at.check_rows-requires c).Else-not-parts_fit);
+  },
+)
 
 pub returns : goal.returns
 returns c =

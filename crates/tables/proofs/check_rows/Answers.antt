@@ -2,7 +2,6 @@
 use mathlib.Core.Path.{sym, ◌∙◌}
 use borrow.Author.Tests.{eq-eqb, ne_eqb}
 use Rattle.records.proofs.Checks.{refuses, goes_on, passes, fails, holds}
-use borrow.Author.Rules.{rules}
 use Rattle.tables.proofs.check_rows.Goals as goal
 
 pub returns-then-u32_at-t : goal.returns-then-u32_at-t

@@ -1,10 +1,8 @@
 -- Refusal 13 by its test, then the rest over the sizes that were read.
 use mathlib.Core.Path.{ap, ◌∙◌}
-use borrow.Author.Tests.{not-true, not-false}
 use Rattle.records.proofs.Checks.{fails, holds}
 use Rattle.tables.specs.Read.{from14}
 use Rattle.tables.proofs.Laws.{length-fits}
-use borrow.Author.Rules.{rules}
 use Rattle.tables.proofs.check_table.Goals as goal
 
 pub returns-then-not-len : goal.returns-then-not-len

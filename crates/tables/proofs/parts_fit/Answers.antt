@@ -2,7 +2,6 @@
 use mathlib.Core.Path.{◌∙◌}
 use Rattle.layout.specs.Table.{parts_fit}
 use Rattle.layout.proofs.Laws.{balances-small}
-use borrow.Author.Rules.{rules}
 use native.Mathlib.Omega.{arith}
 use Rattle.tables.proofs.parts_fit.Goals as goal
 

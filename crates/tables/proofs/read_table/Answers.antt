@@ -1,9 +1,6 @@
 -- By the array's answer, then by the table's.
-use Prim.Native.Nat.{ℕ}
 use mathlib.Core.Path.{◌≡◌, refl, sym, ap, ◌∙◌}
-use mathlib.Core.List.{List}
 use Rattle.laws.proofs.Search.{test-clear, and_then-split}
-use Rattle.records.specs.declared.Trailer.{Trailer}
 use Rattle.records.specs.Record.{found_of}
 use Rattle.records.proofs.Checks.{passes}
 use Rattle.arrays.specs.declared.ArrayAnswer.TheVariants as A
@@ -13,7 +10,6 @@ use Rattle.layout.specs.declared.Sizes.{Sizes}
 use Rattle.layout.specs.Table.{sizes_of, table_length_fits}
 use Rattle.tables.specs.Read.{sizes_answer, read_table}
 use Rattle.tables.proofs.Laws.{length-fits, array-refused, array-read}
-use borrow.Author.Rules.{rules}
 use native.Mathlib.Omega.{arith}
 use Rattle.tables.proofs.read_table.Goals as goal
 use Rattle.tables.proofs.read_table.Goals.{After-check_table, In-Read}

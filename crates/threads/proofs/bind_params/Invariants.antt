@@ -1,13 +1,8 @@
 -- `threads::bind_params` meets its contract. The loop's invariant: the parameters from k on are bound.
-use Prim.Native.Nat.{ℕ, suc, ◌-◌, ◌≤◌, ◌<◌}
-use native.Mathlib.Omega.{arith}
-use mathlib.Core.Path.{◌≡◌, refl, sym, ap, ap₂, ◌∙◌}
-use mathlib.Core.List.{List, map}
-use lib.ListN.{length, get_or, set, take, length-set}
-use borrow.Author.Rules.{rules}
-use Rattle.model.specs.Calculus.{bind}
-use Rattle.laws.proofs.Lists.{All-front}
-use Rattle.threads.proofs.Laws.{bound_from, bound-none, bound-turn}
+use Prim.Native.Nat.{◌-◌, ◌≤◌}
+use mathlib.Core.Path.{◌≡◌}
+use lib.ListN.{length}
+use Rattle.threads.proofs.Laws.{bound_from}
 use Rattle.threads.proofs.bind_params.Given as goal
 
 abbrev pub invariant-loop-k : goal.invariant-loop-k

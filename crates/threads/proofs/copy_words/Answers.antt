@@ -1,9 +1,7 @@
-use Prim.Native.Nat.{◌-◌, ◌≤◌}
+use Prim.Native.Nat.{◌-◌}
 use native.Mathlib.Omega.{arith}
 use mathlib.Core.Path.{◌≡◌, refl, sym, ◌∙◌}
-use lib.ListN.{length, take, drop, length-set}
-use borrow.Author.Rules.{rules}
-use Rattle.laws.specs.Lists.{put}
+use lib.ListN.{length, length-set}
 use Rattle.laws.proofs.Put.{put-nil}
 use Rattle.threads.proofs.Moves.{copied, copied_all}
 use Rattle.threads.proofs.copy_words.Goals as goal

@@ -1,12 +1,9 @@
 -- `threads::copy_words` meets its contract. The loop's invariant: the first j words were copied.
 use Prim.Native.Nat.{◌-◌, ◌≤◌}
-use native.Mathlib.Omega.{arith}
-use mathlib.Core.Path.{◌≡◌, refl, sym, ◌∙◌}
-use lib.ListN.{length, take, drop, length-set}
-use borrow.Author.Rules.{rules}
+use mathlib.Core.Path.{◌≡◌}
+use lib.ListN.{length, take, drop}
 use Rattle.laws.specs.Lists.{put}
-use Rattle.laws.proofs.Put.{put-nil}
-use Rattle.threads.proofs.Moves.{copied, copied_all}
+use Rattle.threads.proofs.Moves.{copied}
 use Rattle.threads.proofs.copy_words.Given as goal
 
 abbrev pub invariant-loop-j : goal.invariant-loop-j

@@ -4,8 +4,6 @@ use native.Mathlib.Nat.{add-zero}
 use native.Mathlib.Omega.{arith}
 use mathlib.Core.Path.{◌≡◌, sym, ap, ◌∙◌}
 use lib.ListN.{length, take, drop}
-use borrow.Author.Tests.{not-true, not-false}
-use borrow.Author.Rules.{rules}
 use Rattle.laws.specs.Lists.{put}
 use Rattle.laws.proofs.Put.{part_length, put-nil, put_same, length-put}
 use Rattle.threads.proofs.keep_if.Goals as goal

@@ -1,11 +1,8 @@
 -- `threads::move_down` meets its contract. The loop's invariant: the first j words were moved, and nothing else changed.
 use Prim.Native.Nat.{◌-◌, ◌≤◌}
-use native.Mathlib.Omega.{arith}
-use mathlib.Core.Path.{◌≡◌, refl, sym, ◌∙◌}
-use lib.ListN.{length, take, drop, length-set}
-use borrow.Author.Rules.{rules}
+use mathlib.Core.Path.{◌≡◌}
+use lib.ListN.{length, take, drop}
 use Rattle.laws.specs.Lists.{put}
-use Rattle.laws.proofs.Put.{put-nil}
 use Rattle.threads.proofs.Moves.{moved}
 use Rattle.threads.proofs.move_down.Given as goal
 

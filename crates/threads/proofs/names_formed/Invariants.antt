@@ -1,14 +1,10 @@
 -- `threads::names_formed` meets its contract. The loop's invariant: the words of the first v names are well formed.
 use Prim.Native.Nat.{ℕ, ◌+◌, ◌-◌, ◌≤◌}
-use native.Mathlib.Omega.{arith}
-use mathlib.Core.Path.{◌≡◌, sym, ap, ◌∙◌}
+use mathlib.Core.Path.{◌≡◌}
 use mathlib.Core.Bool.{Bool, true}
 use mathlib.Core.List.{List}
 use lib.ListN.{get_or}
-use borrow.Author.Tests.{not-true, not-false}
-use borrow.Author.Rules.{rules}
 use Rattle.laws.specs.Search.{every}
-use Rattle.laws.proofs.Search.{every-zero, every-pass, false-every}
 use Rattle.marks.specs.Marks.{marked}
 use Rattle.threads.specs.Threads.{word_ok}
 use Rattle.threads.proofs.names_formed.Given as goal

@@ -4,8 +4,7 @@ use native.Mathlib.Omega.{arith}
 use mathlib.Core.Path.{◌≡◌, sym, ap, ◌∙◌}
 use mathlib.Core.Bool.{true}
 use borrow.Author.Rules.{rules}
-use borrow.Author.Tests.{not-true, not-false}
-use Rattle.model.specs.Tree.{Array, node_at, is_agent}
+use Rattle.model.specs.Tree.{node_at, is_agent}
 use Rattle.model.proofs.Tree.{agent-inside}
 use Rattle.records.specs.Record.{array_of}
 use Rattle.threads.proofs.Laws.{no-agent, marker-past, names-tell}

@@ -1,16 +1,14 @@
-use Prim.Native.Nat.{ℕ, ◌+◌, ◌*◌, ◌-◌, ◌≤◌, ◌<◌}
+use Prim.Native.Nat.{ℕ, ◌+◌, ◌*◌, ◌-◌, ◌<◌}
 use native.Mathlib.Nat.{zero-mul}
 use native.Mathlib.Omega.{arith}
 use mathlib.Core.Path.{◌≡◌, sym, ap, ◌∙◌}
 use mathlib.Core.Bool.{Bool, true}
 use mathlib.Core.List.{List}
-use lib.ListN.{get_or, drop}
-use borrow.Author.Tests.{not-true, not-false}
+use lib.ListN.{drop}
 use borrow.Author.Rules.{rules}
 use Rattle.laws.specs.Search.{every}
 use Rattle.laws.proofs.Search.{every-zero, every-pass, false-every}
-use Rattle.model.specs.Numbers.{nobody}
-use Rattle.model.specs.Memory.{thread_in, threads_in, thread_formed}
+use Rattle.model.specs.Memory.{thread_in, thread_formed}
 use Rattle.model.proofs.Memory.{slot, next-slot, threads-at}
 use Rattle.records.specs.declared.Trailer.{Trailer}
 use Rattle.records.specs.Record.{array_of}

@@ -1,21 +1,14 @@
 -- `threads::threads_formed` meets its contract. The loop's invariant: the first i threads are well formed.
-use Prim.Native.Nat.{ℕ, ◌+◌, ◌*◌, ◌-◌, ◌≤◌, ◌<◌}
-use native.Mathlib.Nat.{zero-mul}
-use native.Mathlib.Omega.{arith}
-use mathlib.Core.Path.{◌≡◌, sym, ap, ◌∙◌}
+use Prim.Native.Nat.{ℕ, ◌+◌, ◌*◌, ◌-◌, ◌≤◌}
+use mathlib.Core.Path.{◌≡◌}
 use mathlib.Core.Bool.{Bool, true}
 use mathlib.Core.List.{List}
-use lib.ListN.{get_or, drop}
-use borrow.Author.Tests.{not-true, not-false}
-use borrow.Author.Rules.{rules}
+use lib.ListN.{get_or}
 use Rattle.laws.specs.Search.{every}
-use Rattle.laws.proofs.Search.{every-zero, every-pass, false-every}
 use Rattle.model.specs.Numbers.{nobody}
-use Rattle.model.specs.Memory.{thread_in, threads_in, thread_formed}
-use Rattle.model.proofs.Memory.{slot, next-slot, threads-at}
+use Rattle.model.specs.Memory.{threads_in, thread_formed}
 use Rattle.records.specs.declared.Trailer.{Trailer}
 use Rattle.records.specs.Record.{array_of}
-use Rattle.threads.specs.Threads.{threads_formed}
 use Rattle.threads.proofs.threads_formed.Given as goal
 
 -- thread i is well formed

@@ -1,17 +1,15 @@
 -- By its node the threads are those of its children, side by side; the name that a new sets is put back, so the environment ends as it was.
-use Rattle.std.proofs.Common.{◌≡◌, ◌<◌, ℕ, true, List, ◌++◌, length, refl, sym, ap, ◌∙◌, arith, length-set}
+use Rattle.std.proofs.Common.{◌<◌, ℕ, true, List, ◌++◌, length, refl, sym, ap, ◌∙◌, arith, length-set}
 use lib.ListN.{set}
 use Rattle.laws.proofs.Search.{or_left}
 use Rattle.model.specs.Calculus.{choices_of}
-use Rattle.model.specs.Tree.{is_agent}
-use Rattle.records.specs.Kinds.{is_stop, is_new_node, is_par, is_choice}
-use Rattle.records.specs.Record.{node_of}
+use Rattle.records.specs.Kinds.{is_stop, is_par, is_choice}
 use Rattle.records.proofs.KindLaws as K
 use Rattle.arrays.proofs.Agents.{left-above, right-above, new-below}
 use Rattle.unfolds.specs.Unfold.{unfolded}
 use Rattle.unfolds.proofs.Laws as U
 use Rattle.unfolds.proofs.+unfold_node.Goals as goal
-use Rattle.unfolds.proofs.+unfold_node.Goals.{After-node_at-r, Then-is_new, Then-is_par, Then-is_choice, Else-is_choice}
+use Rattle.unfolds.proofs.+unfold_node.Goals.{After-node_at-r, Then-is_new}
 
 -- what is known once the record was read
 here : (n : ℕ) (c : After-node_at-r n) → let x = c.args in U.Stands x.file.now x.t x.i c.node_at-r.result
@@ -22,7 +20,7 @@ named : (n : ℕ) (c : Then-is_new n) → let v = c.node_at-r.result.name in (v 
 named n c =
     let p = c.requires in
     let v =
-        new-below p.0.read (record { below = p.1.node; is = c.node_at-r.ensures }) (sym c.is_new.ensures ∙ c.if-is_new.true) in
+    new-below p.0.read (record { below = p.1.node; is = c.node_at-r.ensures }) (sym c.is_new.ensures ∙ c.if-is_new.true) in
     (omega (arith, v, p.1.names), omega (arith, v, p.0.read.formed.few_names))
 
 pub returns-then-is_stop : goal.returns-then-is_stop

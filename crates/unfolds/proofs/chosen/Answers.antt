@@ -1,5 +1,4 @@
 -- The bit read is the definition's.
-use borrow.Author.Rules.{rules}
 use borrow.Author.Tests.{eq-eqb, ne_eqb}
 use Rattle.model.specs.Calculus.{choices_of}
 use Rattle.unfolds.proofs.chosen.Goals as goal

@@ -1,16 +1,12 @@
 -- The loop's invariant: the words of the first v names stand from `at` on, and every other word is as it was.
-use Prim.Native.Nat.{ℕ, ◌-◌, ◌≤◌}
-use native.Mathlib.Omega.{arith}
-use mathlib.Core.Path.{◌≡◌, refl, ap, ◌∙◌}
-use mathlib.Core.List.{List, []}
-use lib.ListN.{length, take, length-set}
-use lib.Seq.{take_all}
-use borrow.Author.Rules.{rules}
+use Prim.Native.Nat.{◌-◌, ◌≤◌}
+use mathlib.Core.Path.{◌≡◌}
+use mathlib.Core.List.{[]}
+use lib.ListN.{length, take}
 use Rattle.laws.specs.Lists.{put}
 use Rattle.marks.specs.Marks.{marked}
 use Rattle.model.specs.Calculus.{cut_from}
 use Rattle.model.specs.Memory.{words}
-use Rattle.unfolds.proofs.Laws.{names-none, names_more}
 use Rattle.unfolds.proofs.write_names.Given as goal
 
 abbrev pub invariant-loop-v : goal.invariant-loop-v
