@@ -105,7 +105,8 @@ pub fn read_full<R: Read>(input: &mut R, buffer: &mut [u8]) -> usize
     done
 }
 
-// Reads the file at a path into a buffer and answers how much came; a file that can't be opened counts as empty.
+// Reads the file at a path into a buffer and answers how much came; a file that can't be opened counts as empty, and so does one whose path is
+// not UTF-8.
 pub fn read_file(rt: &impl Files, path: &[u8], buffer: &mut [u8]) -> usize
     ensures { result ≤ length buffer.new }
 {
