@@ -1,4 +1,4 @@
-use Prim.Native.Nat.{◌-◌}
+use borrow.Author.Rules.{rules}
 use borrow.Author.Count.{below_more}
 use native.Mathlib.Omega.{arith}
 use Rattle.filter.proofs.sift.Goals as goal
@@ -12,13 +12,10 @@ node_passes-requires c = record {
   gathered = c.requires.gathered;
 }
 
-pub returns-then-not-node_passes : goal.returns-then-not-node_passes
-returns-then-not-node_passes c = c.loop-i.invariant
-
 pub loop-i-preserved : goal.loop-i-preserved
 loop-i-preserved c = (
   omega (arith, c.loop-i-test.true),
-  below_more _ c.loop-i.i c.loop-i.invariant.1 (c.node_passes.ensures (c.if-not-node_passes.false)),
+  below_more _ c.loop-i.i c.loop-i.invariant.1 (c.node_passes.ensures (search rules)),
 )
 
 pub returns : goal.returns
