@@ -3,22 +3,21 @@
 -- and below M (Tree.child-above), one parent for each node but 0 (Reach.parent, Reach.one-parent), each node once in a tree (Bounds.once),
 -- names below N (Tree.names-below), uses within reach (Closed.use-reach), no free name at the root (Closed.closed).
 use Prim.Native.Nat.{ℕ, ◌+◌, ◌*◌, ◌≤◌, ◌<◌}
-use mathlib.Core.Path.{◌≡◌, refl, sym, ap, ap₂, ◌∙◌, subst}
+use mathlib.Core.Path.{◌≡◌, refl, ap, ap₂, ◌∙◌, subst}
 use mathlib.Core.Bool.{true, ◌&&◌}
 use mathlib.Core.List.{List}
 use lib.Dec.{leb}
 use lib.ListN.{length}
 use borrow.Author.Tests.{leb-true, eqb-true}
 use Rattle.laws.specs.Search.{Found, clear, hit}
-use Rattle.laws.proofs.Search.{and_split, test-clear, clear-test, first-clear, and_then-split, clear-and_then}
+use Rattle.laws.proofs.Search.{and_split, test-clear, first-clear, and_then-split}
 use Rattle.model.specs.Formed as F
 use Rattle.records.specs.declared.Trailer.{Trailer}
+use Rattle.std.specs.Prelude.{Result, Ok, Err}
 use Rattle.records.specs.declared.Refusal.{Refusal}
-use Rattle.records.specs.declared.Check.{Check}
-use Rattle.records.specs.Record.{record_of, found_of}
+use Rattle.records.specs.Record.{kind_number, record_of, found_of}
 use Rattle.fields.specs.Fields.{shape_fits, refusal6}
-use Rattle.arrays.specs.declared.ArrayAnswer.TheVariants.{Read, Refused}
-use Rattle.arrays.specs.File.{trailer_of, array_length_fits, array_counts_fit, start_fits, refusal1, from2, array_refusal, trailer_answer, read_array, IsRead}
+use Rattle.arrays.specs.File.{trailer_of, array_length_fits, array_counts_fit, start_fits, refusal_by, array_refusal, trailer_answer, read_array, IsRead}
 
 -- ---- what the tests of the trailer say
 
@@ -34,29 +33,28 @@ counts-fit t e =
 pub start_fits_lem : (s : List ℕ) (t : Trailer) → start_fits s t ≡ true → (t.start ≤ 1024) × (t.start + 16 * t.nodes + 16 ≡ length s)
 start_fits_lem s t e = let c = and_split (leb t.start 1024) _ e in (leb-true _ _ c.0, eqb-true _ _ c.1)
 
--- the answer, once the length fits and the rest has been checked
-pub answered-by : (s : List ℕ) (t : Trailer) (x : Check) → array_length_fits s ≡ true → t ≡ trailer_of s → found_of x ≡ from2 s t
+-- the answer, once all has been checked
+pub answered-by : (s : List ℕ) (t : Trailer) (x : Result (Unit {0}) Refusal) → t ≡ trailer_of s → found_of x ≡ refusal_by s t
     → trailer_answer (found_of x) t ≡ read_array s
 unfolding read_array
-answered-by s t x fits e found =
-    ap₂ trailer_answer (found ∙ ap (from2 s) e ∙ sym (clear-and_then (refusal1 s) (from2 s (trailer_of s)) (clear-test (array_length_fits s) _ fits))) e
+answered-by s t x e found = ap₂ trailer_answer (found ∙ ap (refusal_by s) e) e
 
 -- ---- a file that was read
 
 -- what an answer says of the search
-pub answered : (f : Found F.Refusal) (t u : Trailer) → trailer_answer f t ≡ Read u → (f ≡ clear) × (t ≡ u)
+pub answered : (f : Found F.Refusal) (t u : Trailer) → trailer_answer f t ≡ Ok u → (f ≡ clear) × (t ≡ u)
 answered clear t u e = (refl, cc)
 answered (hit r) t u e = (cc, cc)
 
-pub denied : (f : Found F.Refusal) (t : Trailer) (r : Refusal) → trailer_answer f t ≡ Refused r → f ≡ hit record { number = r.number; place = r.place }
+pub denied : (f : Found F.Refusal) (t : Trailer) (r : F.Refusal) → trailer_answer f t ≡ Err r → f ≡ hit r
 denied clear t r e = cc
-denied (hit q) t r e = let p : ◌≡◌ {A = Refusal} record { number = q.number; place = q.place } r = cc in rw (← p)
+denied (hit q) t r e = cc
 
-pub read-passes : (s : List ℕ) (t : Trailer) → read_array s ≡ Read t → (array_refusal s ≡ clear) × (trailer_of s ≡ t)
+pub read-passes : (s : List ℕ) (t : Trailer) → read_array s ≡ Ok t → (array_refusal s ≡ clear) × (trailer_of s ≡ t)
 unfolding read_array
 read-passes s t e = answered (array_refusal s) (trailer_of s) t e
 
-pub read-refuses : (s : List ℕ) (r : Refusal) → read_array s ≡ Refused r → array_refusal s ≡ hit record { number = r.number; place = r.place }
+pub read-refuses : (s : List ℕ) (r : F.Refusal) → read_array s ≡ Err r → array_refusal s ≡ hit r
 unfolding read_array
 read-refuses s r e = denied (array_refusal s) (trailer_of s) r e
 
@@ -95,7 +93,7 @@ module _ (s : List ℕ) (passed : array_refusal s ≡ clear) where
         };
       }
 
-pub read_is : (s : List ℕ) (t : Trailer) → read_array s ≡ Read t → IsRead s t
+pub read_is : (s : List ℕ) (t : Trailer) → read_array s ≡ Ok t → IsRead s t
 read_is s t e = let a = read-passes s t e in subst (IsRead s) a.1 (passed-read s a.0)
 
 -- a record of a file that was read has an arity up to 8
@@ -105,7 +103,7 @@ module _ (s : List ℕ) (t : Trailer) (r : IsRead s t) (i : ℕ) (h : i < t.node
   shape = test-clear _ _ (first-clear t.nodes _ r.shapes i h)
 
   abbrev k : ℕ
-  k = (record_of s t i).kind
+  k = kind_number (record_of s t i).kind
 
   abbrev n : ℕ
   n = (record_of s t i).arity

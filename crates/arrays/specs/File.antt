@@ -1,22 +1,22 @@
 -- The array file: its trailer, refusals 1 to 12 in checking order, and the reader's answers (01, "The array file", "Refusals").
-use Rattle.std.specs.Prelude.{ℕ, ◌+◌, ◌*◌, ◌-◌, ◌/◌, ◌%◌, ◌≤◌, ◌≡◌, Bool, cond, ◌&&◌, List, [], eqb, leb, length, take}
+use Rattle.std.specs.Prelude.{ℕ, ◌+◌, ◌*◌, ◌-◌, ◌/◌, ◌%◌, ◌≤◌, ◌≡◌, Bool, cond, ◌&&◌, List, [], eqb, leb, length, take, Option, Some, None, is_some, Result, Ok, Err}
 use Rattle.laws.specs.Search.{Found, clear, hit, and_then}
 use Rattle.wire.specs.Numbers.{u16_at, u32_at, word_sum}
 use Rattle.model.specs.Formed as F
 use Rattle.model.specs.Formed.{WellFormed, refuse, refusal8, refusal9, refusal10, refusal11, refusal12}
+use Rattle.records.specs.declared.Form.{Form}
+use Rattle.records.specs.declared.Form.TheVariants.{Pis1}
 use Rattle.records.specs.declared.Trailer.{Trailer}
 use Rattle.records.specs.Record.{array_of}
 use Rattle.fields.specs.Fields.{refusal6, refusal7}
-use Rattle.arrays.specs.declared.ArrayAnswer.{ArrayAnswer}
-use Rattle.arrays.specs.declared.ArrayAnswer.TheVariants.{Read, Refused}
 
 -- the letters P, I, S, 1 as one number
 abbrev pub pis1 : ℕ
 pis1 = 80 + 256 * 73 + 65536 * 83 + 16777216 * 49
 
--- the format that the letters name; 0 stands for none
-abbrev pub array_form : ℕ → ℕ
-array_form letters = cond (eqb letters pis1) 1 0
+-- the format that the letters name, if any
+abbrev pub array_form : ℕ → Option Form
+array_form letters = cond (eqb letters pis1) (Some Pis1) None
 
 -- "a 16-byte trailer that points back: start of the records (32 bits), M (16), N (16), word sum (32), the letters `PIS1`"
 abbrev pub trailer_of : List ℕ → Trailer
@@ -37,7 +37,7 @@ refusal1 s = refuse 1 0 (array_length_fits s)
 
 -- "2. Its letters are wrong."
 abbrev pub refusal2 : Trailer → Found F.Refusal
-refusal2 t = refuse 2 0 (eqb t.form 1)
+refusal2 t = refuse 2 0 (is_some t.form)
 
 -- "3. M is 0 or above 1,024, or N is above 256."
 abbrev pub array_counts_fit : Trailer → Bool
@@ -74,17 +74,17 @@ array_refusal s =
     (and_then (refusal11 (array_of s t)) (refusal12 (array_of s t))))))))))))
 
 -- the reader's answer: what the trailer says, or the first refusal
-abbrev pub trailer_answer : Found F.Refusal → Trailer → ArrayAnswer
-trailer_answer clear t = Read t
-trailer_answer (hit r) t = Refused record { number = r.number; place = r.place }
+abbrev pub trailer_answer : Found F.Refusal → Trailer → Result Trailer F.Refusal
+trailer_answer clear t = Ok t
+trailer_answer (hit r) t = Err r
 
-unfoldable pub read_array : List ℕ → ArrayAnswer
+unfoldable pub read_array : List ℕ → Result Trailer F.Refusal
 read_array s = trailer_answer (array_refusal s) (trailer_of s)
 
 -- "The reader hands back the remark as a part of the caller's own file, an empty part after a refusal."
-abbrev pub remark_in : ArrayAnswer → List ℕ → List ℕ
-remark_in (Read t) s = take t.start s
-remark_in (Refused r) s = []
+abbrev pub remark_in : Result Trailer F.Refusal → List ℕ → List ℕ
+remark_in (Ok t) s = take t.start s
+remark_in (Err r) s = []
 
 abbrev pub remark_of : List ℕ → List ℕ
 remark_of s = remark_in (read_array s) s
@@ -101,19 +101,16 @@ pub record IsRead (s : List ℕ) (t : Trailer) : Type 0 where
   pub unused : refusal7 s t ≡ clear
   pub formed : WellFormed (array_of s t)
 
--- ---- the rest of the search, from a refusal on
-
-abbrev pub from10 : List ℕ → Trailer → Found F.Refusal
-from10 s t = and_then (refusal10 (array_of s t)) (and_then (refusal11 (array_of s t)) (refusal12 (array_of s t)))
-
-abbrev pub from8 : List ℕ → Trailer → Found F.Refusal
-from8 s t = and_then (refusal8 (array_of s t)) (and_then (refusal9 (array_of s t)) (from10 s t))
+-- ---- the search over a trailer, and its rest from refusal 6 on
 
 abbrev pub from6 : List ℕ → Trailer → Found F.Refusal
-from6 s t = and_then (refusal6 s t) (and_then (refusal7 s t) (from8 s t))
+from6 s t =
+    and_then (refusal6 s t)
+    (and_then (refusal7 s t)
+    (and_then (refusal8 (array_of s t))
+    (and_then (refusal9 (array_of s t))
+    (and_then (refusal10 (array_of s t))
+    (and_then (refusal11 (array_of s t)) (refusal12 (array_of s t)))))))
 
-abbrev pub from4 : List ℕ → Trailer → Found F.Refusal
-from4 s t = and_then (refusal4 s t) (and_then (refusal5 s t) (from6 s t))
-
-abbrev pub from2 : List ℕ → Trailer → Found F.Refusal
-from2 s t = and_then (refusal2 t) (and_then (refusal3 t) (from4 s t))
+abbrev pub refusal_by : List ℕ → Trailer → Found F.Refusal
+refusal_by s t = and_then (refusal1 s) (and_then (refusal2 t) (and_then (refusal3 t) (and_then (refusal4 s t) (and_then (refusal5 s t) (from6 s t)))))

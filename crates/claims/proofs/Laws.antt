@@ -1,6 +1,6 @@
 -- Refusal 30 by each set's first claim, refusal 31 by neighbours, and what 21, 30 and 31 leave of the claims.
 use Prim.Native.Nat.{ℕ, zero, suc, ◌-◌, ◌≤◌, ◌<◌}
-use native.Mathlib.Nat.{le_refl, le_trans, eq-or-lt_of_le, lt_of_not-le, le_of_suc-le-suc}
+use native.Mathlib.Nat.{le_refl, eq-or-lt_of_le, lt_of_not-le, le_of_suc-le-suc}
 use native.Mathlib.Omega.{arith}
 use mathlib.Core.Path.{◌≡◌, refl, sym, ap, ◌∙◌, subst}
 use mathlib.Core.Logic.{◌⊎◌, inl, inr, ◌≢◌, ⊎_elim}
@@ -8,7 +8,7 @@ use mathlib.Core.Bool.{true, false, true≢false}
 use lib.Dec.{eqb, leb}
 use borrow.Author.Tests.{eqb-true, eq-eqb, ltb-true, leb-true, leb-false}
 use Rattle.laws.specs.Search.{first, clear}
-use Rattle.laws.proofs.Search.{decided, and_split, and-join, implies, implied, same_test, test-clear, first-clear, clear_first, every_true, true-every}
+use Rattle.laws.proofs.Search.{decided, and_split, and-join, implies, implied, same_test, test-clear, first-clear, every_true, true-every}
 use Rattle.model.specs.declared.Claim.{Claim}
 use Rattle.model.specs.Tree.{Array}
 use Rattle.model.specs.Formed.{refuse}
@@ -116,8 +116,3 @@ pub in_order_lem : (t : Table) (c : ℕ) → 1 ≤ c → comes_after (t.claim c)
 unfolding in_order
 in_order_lem t zero h = absurd (omega (arith, h))
 in_order_lem t (suc c) h = ap (λ (d : ℕ). comes_after (t.claim (suc c)) (t.claim d)) (omega arith)
-
--- a search that found nothing below n found nothing below fewer
-pub fewer : (t : Table) (n : ℕ) → t.claims ≤ n → first n (λ c. refuse 31 c (in_order t c)) ≡ clear → refusal31 t ≡ clear
-unfolding refusal31
-fewer t n h e = clear_first t.claims _ (λ c l. first-clear n _ e c (le_trans l h))

@@ -3,118 +3,116 @@
 #![tactic(auto)]
 
 ghost use Rattle.std.specs.Prelude.{◌≡◌, ◌<◌};
-ghost use Rattle.model.specs.Rules.{rises, comes_after};
-ghost use Rattle.records.specs.Record.{array_of, found_of, RecordsFit};
-ghost use Rattle.layout.specs.Table.{table_of, claim_fits, agrees, refusal21, refusal30, refusal31, ClaimsLie};
+ghost use Rattle.laws.specs.Search.{clear, first};
+ghost use Rattle.model.specs.Formed.{refuse};
+ghost use Rattle.model.specs.Rules.{comes_after};
+ghost use Rattle.records.specs.ArrayFile.{array_in};
+ghost use Rattle.records.specs.Record.{found_of};
+ghost use Rattle.layout.specs.Table.{table_of, claim_fits, agrees, set_fits, in_order, refusal21, refusal30, refusal31, ClaimsLie};
+ghost use Rattle.layout.specs.TableFile.{table_in};
 ghost use Rattle.claims.specs.Sets.{FirstOf};
 
-use layout::Sizes;
+use layout::{Sizes, TableFile};
 use model::Claim;
-use records::{Check, Refusal, Trailer};
+use records::{ArrayFile, Reason, Refusal};
 
 // A claim names an agent and a balance.
-fn claim_fits(file: &[u8], t: Trailer, balances: usize, x: Claim) -> bool
-    requires { RecordsFit file.now t }
-    ensures { result ≡ claim_fits (array_of file.now t) balances x }
+fn claim_fits(array: &ArrayFile, balances: usize, x: Claim) -> bool
+    ensures { result ≡ claim_fits (array_in array.now) balances x }
 {
-    records::is_agent(records::node_or_stop(file, t, x.agent)) & (x.balance < balances)
+    records::is_agent(array.node_or_stop(x.agent)) & (x.balance < balances)
 }
 
 // Refusal 21.
-pub fn bad_claim(file: &[u8], t: Trailer, table: &[u8], z: Sizes) -> Check
-    requires { RecordsFit file.now t × ClaimsLie table.now z }
-    ensures { found_of result ≡ refusal21 (array_of file.now t) (table_of table.now z) }
+pub fn bad_claim(array: &ArrayFile, table: &TableFile) -> Result<(), Refusal>
+    ensures { found_of result ≡ refusal21 (array_in array.now) (table_in table.now) }
 {
-    let mut c: usize = 0;
-    while c < z.claims {
-        if !claim_fits(file, t, z.balances, layout::read_claim(table, z, c)) {
-            return Check::Refused(Refusal {
-                number: 21,
-                place: c,
-            });
-        }
-        c += 1;
-    }
-    Check::Passed
+    records::first_failing(table.sizes.claims, Reason::Claim, |c| {
+        claim_fits(array, table.sizes.balances, table.claim(c))
+    })
 }
 
-// The first claim of claim c's set. The search ends at c itself.
-pub fn first_of_set(table: &[u8], z: Sizes, c: usize) -> usize
-    requires { ClaimsLie table.now z × (c < z.claims) }
-    ensures { FirstOf (table_of table.now z) c result }
+// The first claim of claim c's set.
+pub fn first_claim(table: &TableFile, c: usize) -> usize
+    requires { c < table.now.sizes.claims }
+    ensures { FirstOf (table_in table.now) c result }
 {
-    let set = layout::read_claim(table, z, c).set;
+    let set = table.claim(c).set;
     if set == 0 {
         return c;
     }
-    let mut d: usize = 0;
-    while layout::read_claim(table, z, d).set != set {
-        d += 1;
+    for d in 0..c {
+        if table.claim(d).set == set {
+            return d;
+        }
     }
-    d
+    c
 }
 
 // Two claims agree in most and in balance.
 fn claims_agree(x: Claim, y: Claim) -> bool
     ensures { result ≡ agrees x y }
 {
-    (x.most == y.most) & (x.balance == y.balance)
+    (x.most, x.balance) == (y.most, y.balance)
 }
 
-// Refusal 30. A claim that agrees with its set's first agrees with all of the set before it, since these were passed.
-pub fn bad_set(table: &[u8], z: Sizes) -> Check
-    requires { ClaimsLie table.now z }
-    ensures { found_of result ≡ refusal30 (table_of table.now z) }
+// Claim c agrees with its set's first. It then agrees with all of the set before it, where these were passed.
+fn set_fits(table: &TableFile, c: usize) -> bool
+    requires { c < table.now.sizes.claims }
+    ensures { first c (λ d. refuse 30 d (set_fits (table_in table.now) d)) ≡ clear → result ≡ set_fits (table_in table.now) c }
 {
-    let mut later: usize = 0;
-    while later < z.claims {
-        let first = first_of_set(table, z, later);
-        let x = layout::read_claim(table, z, later);
-        let y = layout::read_claim(table, z, first);
-        if !claims_agree(x, y) {
-            return Check::Refused(Refusal {
-                number: 30,
-                place: later,
-            });
-        }
-        later += 1;
-    }
-    Check::Passed
+    let first = first_claim(table, c);
+    claims_agree(table.claim(c), table.claim(first))
 }
 
-// The lower number first; of equal ones what follows decides.
-fn number_rises(m: usize, n: usize, next: bool) -> bool
-    ensures { result ≡ rises m n next }
+// Refusal 30.
+pub fn bad_set(table: &TableFile) -> Result<(), Refusal>
+    ensures { found_of result ≡ refusal30 (table_in table.now) }
 {
-    (m < n) | ((m == n) & next)
+    records::first_failing(
+        table.sizes.claims,
+        Reason::Set,
+        |later| set_fits(table, later),
+    )
 }
 
 // Claim y comes after claim x.
 fn comes_after(y: Claim, x: Claim) -> bool
     ensures { result ≡ comes_after y x }
 {
-    let by_balance = x.balance < y.balance;
-    let by_most = number_rises(x.most, y.most, by_balance);
-    let by_agent = number_rises(x.agent, y.agent, by_most);
-    number_rises(x.set, y.set, by_agent)
+    (x.set, x.agent, x.most, x.balance) < (y.set, y.agent, y.most, y.balance)
+}
+
+// Claim c comes after its predecessor. Claim 0 has none.
+fn in_order(table: &TableFile, c: usize) -> bool
+    requires { c < table.now.sizes.claims }
+    ensures { result ≡ in_order (table_in table.now) c }
+{
+    if c == 0 {
+        return true;
+    }
+    comes_after(table.claim(c), table.claim(c - 1))
 }
 
 // Refusal 31.
-pub fn bad_order(table: &[u8], z: Sizes) -> Check
-    requires { ClaimsLie table.now z }
-    ensures { found_of result ≡ refusal31 (table_of table.now z) }
+pub fn bad_order(table: &TableFile) -> Result<(), Refusal>
+    ensures { found_of result ≡ refusal31 (table_in table.now) }
 {
-    let mut next: usize = 1;
-    while next < z.claims {
-        let x = layout::read_claim(table, z, next - 1);
-        let y = layout::read_claim(table, z, next);
-        if !comes_after(y, x) {
-            return Check::Refused(Refusal {
-                number: 31,
-                place: next,
-            });
-        }
-        next += 1;
-    }
-    Check::Passed
+    records::first_failing(
+        table.sizes.claims,
+        Reason::Order,
+        |next| in_order(table, next),
+    )
+}
+
+// The first claim of claim c's set, in a table that is passed beside its sizes, as docs name it.
+pub fn first_of_set(table: &[u8], z: Sizes, c: usize) -> usize
+    requires { ClaimsLie table.now z × (c < z.claims) }
+    ensures { FirstOf (table_of table.now z) c result }
+{
+    let table = TableFile {
+        bytes: table,
+        sizes: z,
+    };
+    first_claim(&table, c)
 }

@@ -7,12 +7,12 @@ use mathlib.Core.Logic.{⊎_elim}
 use mathlib.Core.Bool.{Bool, true, false, cond, not, ◌&&◌, ◌||◌}
 use mathlib.Core.List.{List, []}
 use lib.Dec.{eqb, ltb, eqb-suc-zero}
-use lib.ListN.{length, get_or, set, drop, replicate, length-take, length-replicate, get_or-replicate, get_or-eq_default}
-use lib.Seq.{get_or-set_same, get_or-set_other}
+use lib.ListN.{length, get_or, set, take, drop, replicate, length-take, length-replicate, get_or-replicate, get_or-eq_default}
+use lib.Seq.{get_or-set_same, get_or-set_other, get_or-take, length-take-le}
 use borrow.Author.Tests.{eqb-true, eqb-false, ltb-true, ltb-false, ne_eqb, le-ltb}
-use Rattle.laws.specs.Search.{sum}
+use Rattle.laws.specs.Search.{Found, first, sum}
 use Rattle.laws.specs.Lists.{one, times}
-use Rattle.laws.proofs.Search.{decided, sum-zero, sum_step, sum_bound, sum_same}
+use Rattle.laws.proofs.Search.{decided, sum-zero, sum_step, sum_bound, sum_same, first-same}
 use Rattle.laws.proofs.Lists.{one-le, times-le, times-take}
 use Rattle.model.specs.Tree.{Sort, out, inp, resource, Node, node_at, receives}
 use Rattle.model.specs.Formed.{children, params, binds}
@@ -28,6 +28,11 @@ use Rattle.counts.specs.Counts.{Grown, Below, params_of}
 pub below_one : (k : ℕ) → ltb k 1 ≡ eqb k 0
 below_one zero = refl
 below_one (suc k) = le-ltb (suc k) 1 (omega arith) ∙ sym (eqb-suc-zero k)
+
+-- a search through the first n entries of a table
+pub front_search : {A : Type 0} (table part : List ℕ) (n : ℕ) (f : ℕ → ℕ → Found A) → part ≡ take n table → n ≤ length table
+    → first (length part) (λ k. f k (get_or part k 0)) ≡ first n (λ k. f k (get_or table k 0))
+front_search table part n f e h = rw (e, length-take-le n table h) (first-same n _ _ (λ k l. ap (f k) (get_or-take n table k 0 l)))
 
 -- ---- tables
 

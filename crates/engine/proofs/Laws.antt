@@ -10,6 +10,7 @@ use mathlib.Core.List.{List}
 use lib.Dec.{eqb, ltb, leb}
 use lib.ListN.{length, get_or, drop}
 use borrow.Author.Tests.{eqb-true, eq-eqb, ne_eqb, le-ltb, leb-true, leb-false, not-false}
+use Rattle.std.specs.Prelude.{Option, Some, None, Result, Ok, Err}
 use Rattle.laws.specs.Search.{hit}
 use Rattle.laws.proofs.Search.{or_split, or-false, first-hit, test-hit}
 use Rattle.model.specs.Tree.{Array}
@@ -25,13 +26,12 @@ use Rattle.model.proofs.Memory.{length-threads, threads-at, thread-at}
 use Rattle.model.proofs.Lent.{formed-sound, sound-formed}
 use Rattle.model.proofs.Told.{walk-next, next-tells, next-sound}
 use Rattle.records.specs.declared.Trailer.{Trailer}
+use Rattle.records.specs.declared.Reason.{Reason}
 use Rattle.records.specs.Record.{array_of}
-use Rattle.ready.specs.declared.Ready.{Ready}
-use Rattle.ready.specs.declared.Ready.TheVariants.{Nothing, At}
+use Rattle.ready.specs.declared.Pair.{Pair}
 use Rattle.ready.specs.Ready.{meeting, first_meeting, found_pair}
 use Rattle.ready.proofs.Attempts.{attempt-24, attempt-refused, first-is}
 use Rattle.steps.specs.declared.Fired.{Fired}
-use Rattle.steps.specs.declared.Fired.TheVariants.{Stopped, Made}
 use Rattle.lent.specs.declared.Counts.{Counts}
 use Rattle.lent.specs.Lent.{lent_of}
 use Rattle.steps.specs.Steps.{Fires}
@@ -80,29 +80,30 @@ module _ (f : List ℕ) (t : Trailer) (l ml : List ℕ) (n : Counts) where
   len = length-threads t.names count l
 
   -- the search for the first pair
-  pub found-is : (ch : Choices) (j : ℕ) (x : Ready) → found_pair x ch ≡ first_meeting a c count ch → next_in a ch j m ≡ on_found a j m (found_pair x ch)
+  pub found-is : (ch : Choices) (j : ℕ) (x : Option Pair) → found_pair x ch ≡ first_meeting a c count ch → next_in a ch j m ≡ on_found a j m (found_pair x ch)
   unfolding next_in
   found-is ch j x e = ap (on_found a j m) (sym (first-is a (entries_of m) c ch) ∙ ap (λ (k : ℕ). first_meeting a c k ch) len ∙ sym e)
 
-  module _ (ch : Choices) (j : ℕ) (x : Ready) (e : found_pair x ch ≡ first_meeting a c count ch) where
-    pub stride-quiet : x ≡ Nothing → next_in a ch j m ≡ ended Quiet
+  module _ (ch : Choices) (j : ℕ) (x : Option Pair) (e : found_pair x ch ≡ first_meeting a c count ch) where
+    pub stride-quiet : x ≡ None → next_in a ch j m ≡ ended Quiet
     unfolding on_found
-    stride-quiet q = found-is ch j x e ∙ ap (λ (y : Ready). on_found a j m (found_pair y ch)) q
+    stride-quiet q = found-is ch j x e ∙ ap (λ (y : Option Pair). on_found a j m (found_pair y ch)) q
 
-    module _ (r s : ℕ) (q : x ≡ At r s) where
-      at_pair_lem : next_in a ch j m ≡ on_found a j m (hit (try ch r s))
-      at_pair_lem = found-is ch j x e ∙ ap (λ (y : Ready). on_found a j m (found_pair y ch)) q
+    module _ (p : Pair) (q : x ≡ Some p) where
+      at_pair_lem : next_in a ch j m ≡ on_found a j m (hit (try ch p.receiver p.sender))
+      at_pair_lem = found-is ch j x e ∙ ap (λ (y : Option Pair). on_found a j m (found_pair y ch)) q
 
       pub stride-spent : j ≡ 0 → next_in a ch j m ≡ ended Spent
       unfolding on_found
-      stride-spent d = at_pair_lem ∙ ap (λ (b : Bool). cond b (ended Spent) (turn_in a m (try ch r s))) (eq-eqb j 0 d)
+      stride-spent d = at_pair_lem ∙ ap (λ (b : Bool). cond b (ended Spent) (turn_in a m (try ch p.receiver p.sender))) (eq-eqb j 0 d)
 
-      pub stride-turn : j ≢ 0 → next_in a ch j m ≡ turn_in a m (try ch r s)
+      pub stride-turn : j ≢ 0 → next_in a ch j m ≡ turn_in a m (try ch p.receiver p.sender)
       unfolding on_found
-      stride-turn d = at_pair_lem ∙ ap (λ (b : Bool). cond b (ended Spent) (turn_in a m (try ch r s))) (ne_eqb j 0 d)
+      stride-turn d = at_pair_lem ∙ ap (λ (b : Bool). cond b (ended Spent) (turn_in a m (try ch p.receiver p.sender))) (ne_eqb j 0 d)
 
-      pub pair-ready : (r < count) × (s < count) × (meeting a (get_or c r nobody) (get_or c s nobody) ≡ 0)
-      pair-ready = found-meets a c count ch r s (ap (λ (y : Ready). found_pair y ch) (sym q) ∙ e)
+      pub pair-ready : (p.receiver < count) × (p.sender < count)
+          × (meeting a (get_or c p.receiver nobody) (get_or c p.sender nobody) ≡ 0)
+      pair-ready = found-meets a c count ch p.receiver p.sender (ap (λ (y : Option Pair). found_pair y ch) (sym q) ∙ e)
 
   module _ (choices : List ℕ) (r s : ℕ) where
     abbrev u : Attempt
@@ -170,20 +171,20 @@ module _ (f : List ℕ) (t : Trailer) (choices l ml : List ℕ) (n : Counts) (r 
   abbrev v : Attempt
   v = try (choices_of choices) r s
 
-  pub turn_stopped : (z : Allowance) (e : Fired) (k : ℕ) (l' ml' : List ℕ) → Fires f t choices l ml n r s e l' ml' → e ≡ Stopped k
+  pub turn_stopped : (z : Allowance) (e : Result Fired Reason) (k : Reason) (l' ml' : List ℕ) → Fires f t choices l ml n r s e l' ml' → e ≡ Err k
       → Strides A z N (turn_in A N v) (Ended Full) l' ml'
   unfolding turn_in on_result
   turn_stopped z e k l' ml' h q =
-      let d = (subst (λ (x : Fired). Fires f t choices l ml n r s x l' ml') q h).0 in
+      let d = (subst (λ (x : Result Fired Reason). Fires f t choices l ml n r s x l' ml') q h).0 in
       (ap (on_result v) d.0, d.1, d.2)
 
-  pub turn-made : (e : Fired) (k : Counts) (y : ℕ) (l' ml' : List ℕ) → Fires f t choices l ml n r s e l' ml' → e ≡ Made k y
+  pub turn-made : (e : Result Fired Reason) (k : Fired) (l' ml' : List ℕ) → Fires f t choices l ml n r s e l' ml' → e ≡ Ok k
       → (p q : ℕ) → p ≡ get_or l (r * (2 + t.names)) 0 → q ≡ get_or l (s * (2 + t.names)) 0 → r < n.threads → s < n.threads
       → (w z : Allowance) → z ≡ record { allowed = w.allowed; left = w.left - 1 }
-      → Strides A w N (turn_in A N v) (E.Made record { receiver = p; sender = q; marker = y; counts = k; allowance = z }) l' ml'
+      → Strides A w N (turn_in A N v) (E.Made record { receiver = p; sender = q; marker = k.marker; counts = k.counts; allowance = z }) l' ml'
   unfolding turn_in on_result
-  turn-made e k y l' ml' h z p q ep eq hr hs w b eb =
-      let g = subst (λ (x : Fired). Fires f t choices l ml n r s x l' ml') z h in (
+  turn-made e k l' ml' h z p q ep eq hr hs w b eb =
+      let g = subst (λ (x : Result Fired Reason). Fires f t choices l ml n r s x l' ml') z h in (
         v,
         ap (on_result v) g.0,
         record {

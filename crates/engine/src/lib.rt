@@ -7,9 +7,8 @@ ghost use Rattle.std.specs.Prelude.{◌≡◌, true, ◌+◌, ◌*◌, ◌-◌, 
 ghost use Rattle.model.specs.Calculus.{choices_of};
 ghost use Rattle.model.specs.Numbers.{nobody};
 ghost use Rattle.model.specs.Memory.{threads_in, formed, walk_in, try, turn_in, next_in};
-ghost use Rattle.records.specs.Record.{array_of};
+ghost use Rattle.records.specs.ArrayFile.{array_in};
 ghost use Rattle.arrays.specs.File.{IsRead};
-ghost use Rattle.unfolds.specs.Unfold.{Prepared};
 ghost use Rattle.lent.specs.Lent.{lent_of};
 ghost use Rattle.steps.specs.Steps.{Fires};
 ghost use Rattle.ready.specs.Ready.{meeting};
@@ -17,9 +16,10 @@ ghost use Rattle.engine.specs.Engine.{Begins, FiresChecked, Strides, walked_of, 
 
 use lent::Counts;
 use model::Ending;
-use ready::Ready;
-use records::Trailer;
+use ready::Pair;
+use records::{ArrayFile, Reason};
 use steps::Fired;
+use unfolds::Ground;
 
 // The steps that a walk may make in all, and how many of them are left.
 #[derive(Clone, Copy)]
@@ -45,8 +45,8 @@ impl Allowance {
         ensures { result ≡ record { allowed = self.allowed; left = self.left - 1 } }
     {
         Allowance {
-            allowed: self.allowed,
             left: self.left - 1,
+            ..self
         }
     }
 
@@ -54,10 +54,7 @@ impl Allowance {
     pub fn made(self) -> u32
         ensures { result ≡ self.allowed - self.left }
     {
-        if self.allowed < self.left {
-            return 0;
-        }
-        self.allowed - self.left
+        self.allowed.saturating_sub(self.left)
     }
 }
 
@@ -72,18 +69,11 @@ pub struct Turn {
     pub allowance: Allowance,
 }
 
-// The walk's next step, or why there is none.
+// The walk's next step, or why there is none. An enum of its own: an end is told like a step, and is no error as in a Result.
 #[derive(Clone, Copy)]
 pub enum Stride {
     Ended(Ending),
     Made(Turn),
-}
-
-// The same, or refusal 23.
-#[derive(Clone, Copy)]
-pub enum Strode {
-    Refused(u8),
-    Strode(Stride),
 }
 
 // How a walk ended, the steps it made, and the counts it left.
@@ -94,135 +84,124 @@ pub struct Walk {
     pub counts: Counts,
 }
 
-// The same, or refusal 23.
-#[derive(Clone, Copy)]
-pub enum Walked {
-    Refused(u8),
-    Walked(Walk),
-}
-
 // The start, with an environment where no name holds anything.
-fn start_with(
-    file: &[u8],
-    t: Trailer,
-    frees: &[u64],
-    choices: &[u8],
-    threads: &mut [u32],
-    env: &mut [u32],
-) -> Fired
-    requires { Prepared file.now t frees.now choices.now × (env.old ≡ replicate t.names 0) }
-    ensures { Begins file.now t choices.now threads.old result threads.new }
+fn start_with(ground: &Ground, threads: &mut [u32], env: &mut [u32]) -> Result<Fired, Reason>
+    requires { env.old ≡ replicate ground.now.array.trailer.names 0 }
+    ensures { Begins ground.now.array.bytes.now ground.now.array.trailer ground.now.choices.now threads.old result threads.new }
 {
-    let total = unfolds::count_threads(file, t, frees, choices, 0, 0, env, 0);
-    if !lent::threads_fit(threads, t.names, total) {
-        return Fired::Stopped(28);
+    let total = ground.count_threads(0, 0, env, 0);
+    if !lent::threads_fit(threads, ground.array.trailer.names, total) {
+        return Err(Reason::Threads);
     }
-    unfolds::unfold_node(file, t, frees, choices, 0, 0, env, threads, 0);
-    Fired::Made(
-        Counts {
+    ground.unfold_node(0, 0, env, threads, 0);
+    Ok(Fired {
+        counts: Counts {
             threads: total,
             markers: 0,
         },
-        0,
-    )
+        marker: 0,
+    })
 }
 
 // Writes the start, or refuses it by 28.
-pub fn start(file: &[u8], t: Trailer, choices: &[u8], threads: &mut [u32]) -> Fired
-    requires { IsRead file.now t × (length choices.now ≡ 128) }
-    ensures { Begins file.now t choices.now threads.old result threads.new }
+pub fn start(array: &ArrayFile, choices: &[u8], threads: &mut [u32]) -> Result<Fired, Reason>
+    requires { IsRead array.now.bytes.now array.now.trailer × (length choices.now ≡ 128) }
+    ensures { Begins array.now.bytes.now array.now.trailer choices.now threads.old result threads.new }
 {
     let mut frees = [0u64; 4096];
-    frees::fill_frees(&mut frees, file, t);
+    frees::fill_frees(&mut frees, array);
+    let ground = Ground {
+        array: *array,
+        frees: &frees,
+        choices,
+    };
     let mut env = [0u32; 256];
-    let n = t.names;
-    start_with(file, t, &frees, choices, threads, &mut env[..n])
+    let n = array.trailer.names;
+    start_with(&ground, threads, &mut env[..n])
 }
 
-// A step on well-formed lists: 24 to 29, or the counts after it.
+// A step on well-formed lists: what it leaves, or 24 to 29.
 fn step_formed(
-    file: &[u8],
-    t: Trailer,
-    frees: &[u64],
-    choices: &[u8],
+    ground: &Ground,
     threads: &mut [u32],
     markers: &mut [u16],
     counts: Counts,
-    r: usize,
-    s: usize,
-) -> Fired
-    requires prepared { Prepared file.now t frees.now choices.now }
-    requires counts_value { formed (array_of file.now t) (lent_of threads.old markers.old counts) ≡ true }
-    ensures { Fires file.now t choices.now threads.old markers.old counts r s
-        result threads.new markers.new }
+    pair: Pair,
+) -> Result<Fired, Reason>
+    requires { formed (array_in ground.now.array) (lent_of threads.old markers.old counts) ≡ true }
+    ensures { Fires ground.now.array.bytes.now ground.now.array.trailer ground.now.choices.now threads.old markers.old counts
+        pair.receiver pair.sender result threads.new markers.new }
 {
     let count = counts.threads;
-    if (count <= r) | (count <= s) {
-        return Fired::Stopped(24);
+    if (count <= pair.receiver) | (count <= pair.sender) {
+        return Err(Reason::Position);
     }
-    let n = ready::pair_refusal(file, t, threads, r, s);
-    if n != 0 {
-        return Fired::Stopped(n);
-    }
-    steps::fire(file, t, frees, choices, threads, markers, counts, r, s)
+    ready::pair_refusal(&ground.array, threads, pair)?;
+    steps::fire(ground, threads, markers, counts, pair)
 }
 
-// A step: 23 to 29, or the counts after it.
+// A step of threads r and s, two numbers as the front page's `step` takes them: what it leaves, or 23 to 29.
 pub fn step(
-    file: &[u8],
-    t: Trailer,
+    array: &ArrayFile,
     choices: &[u8],
     threads: &mut [u32],
     markers: &mut [u16],
     counts: Counts,
     r: usize,
     s: usize,
-) -> Fired
-    requires { IsRead file.now t × (length choices.now ≡ 128) }
-    ensures { FiresChecked file.now t choices.now threads.old markers.old counts r s
+) -> Result<Fired, Reason>
+    requires { IsRead array.now.bytes.now array.now.trailer × (length choices.now ≡ 128) }
+    ensures { FiresChecked array.now.bytes.now array.now.trailer choices.now threads.old markers.old counts r s
         result threads.new markers.new }
 {
     let mut frees = [0u64; 4096];
-    if !lent::lists_formed(&mut frees, file, t, threads, markers, counts) {
-        return Fired::Stopped(23);
+    if !lent::lists_formed(&mut frees, array, threads, markers, counts) {
+        return Err(Reason::Lists);
     }
-    step_formed(file, t, &frees, choices, threads, markers, counts, r, s)
+    let ground = Ground {
+        array: *array,
+        frees: &frees,
+        choices,
+    };
+    let pair = Pair {
+        receiver: r,
+        sender: s,
+    };
+    step_formed(&ground, threads, markers, counts, pair)
 }
 
 // The step of a ready pair as one turn of the walk.
 fn pair_turn(
-    file: &[u8],
-    t: Trailer,
-    frees: &[u64],
-    choices: &[u8],
+    ground: &Ground,
     threads: &mut [u32],
     markers: &mut [u16],
     counts: Counts,
-    r: usize,
-    s: usize,
+    pair: Pair,
     allowance: Allowance,
 ) -> Stride
-    requires prepared { Prepared file.now t frees.now choices.now }
-    requires counts_value { formed (array_of file.now t) (lent_of threads.old markers.old counts) ≡ true × (r < counts.threads) × (s < counts.threads) }
-    requires nobody_value { meeting (array_of file.now t) (get_or (threads_in t.names counts.threads threads.old) r nobody)
-        (get_or (threads_in t.names counts.threads threads.old) s nobody) ≡ 0 }
+    requires counts_value { formed (array_in ground.now.array) (lent_of threads.old markers.old counts) ≡ true
+        × (pair.receiver < counts.threads) × (pair.sender < counts.threads) }
+    requires nobody_value { meeting (array_in ground.now.array)
+        (get_or (threads_in ground.now.array.trailer.names counts.threads threads.old) pair.receiver nobody)
+        (get_or (threads_in ground.now.array.trailer.names counts.threads threads.old) pair.sender nobody) ≡ 0 }
     requires left_nonzero { 0 < allowance.left }
-    ensures { Strides (array_of file.now t) allowance (lent_of threads.old markers.old counts)
-        (turn_in (array_of file.now t) (lent_of threads.old markers.old counts) (try (choices_of choices.now) r s))
+    ensures { Strides (array_in ground.now.array) allowance (lent_of threads.old markers.old counts)
+        (turn_in (array_in ground.now.array) (lent_of threads.old markers.old counts)
+        (try (choices_of ground.now.choices.now) pair.receiver pair.sender))
         result threads.new markers.new }
 {
-    let width = 2 + t.names;
-    let receiver = wire::word_index(threads[r * width]);
-    let sender = wire::word_index(threads[s * width]);
+    let width = 2 + ground.array.trailer.names;
+    let receiver = threads[pair.receiver * width] as usize;
+    let sender = threads[pair.sender * width] as usize;
     let lessened = allowance.spend();
-    let fired = steps::fire(file, t, frees, choices, threads, markers, counts, r, s);
+    let fired = steps::fire(ground, threads, markers, counts, pair);
     match fired {
-        Fired::Stopped(_number) => Stride::Ended(Ending::Full),
-        Fired::Made(made, marker) => Stride::Made(Turn {
+        Err(_reason) => Stride::Ended(Ending::Full),
+        Ok(made) => Stride::Made(Turn {
             receiver,
             sender,
-            marker,
-            counts: made,
+            marker: made.marker,
+            counts: made.counts,
             allowance: lessened,
         }),
     }
@@ -230,57 +209,44 @@ fn pair_turn(
 
 // One turn of the walk on well-formed lists.
 fn stride_formed(
-    file: &[u8],
-    t: Trailer,
-    frees: &[u64],
-    choices: &[u8],
+    ground: &Ground,
     threads: &mut [u32],
     markers: &mut [u16],
     counts: Counts,
     allowance: Allowance,
 ) -> Stride
-    requires prepared { Prepared file.now t frees.now choices.now }
-    requires counts_value { formed (array_of file.now t) (lent_of threads.old markers.old counts) ≡ true }
-    ensures { Strides (array_of file.now t) allowance (lent_of threads.old markers.old counts)
-        (next_in (array_of file.now t) (choices_of choices.now) allowance.left
+    requires { formed (array_in ground.now.array) (lent_of threads.old markers.old counts) ≡ true }
+    ensures { Strides (array_in ground.now.array) allowance (lent_of threads.old markers.old counts)
+        (next_in (array_in ground.now.array) (choices_of ground.now.choices.now) allowance.left
         (lent_of threads.old markers.old counts))
         result threads.new markers.new }
 {
-    let found = ready::first_ready(file, t, threads, counts.threads);
-    match found {
-        Ready::Nothing => Stride::Ended(Ending::Quiet),
-        Ready::At(r, s) => {
-            let left = allowance.left;
-            if left == 0 {
-                return Stride::Ended(Ending::Spent);
-            }
-            pair_turn(
-                file, t, frees, choices, threads, markers, counts, r, s, allowance,
-            )
-        }
+    let Some(pair) = ready::first_ready(&ground.array, threads, counts.threads) else {
+        return Stride::Ended(Ending::Quiet);
+    };
+    if allowance.left == 0 {
+        return Stride::Ended(Ending::Spent);
     }
+    pair_turn(ground, threads, markers, counts, pair, allowance)
 }
 
 // The walk on well-formed lists. The allowance passes from step to step.
 fn walk_formed(
-    file: &[u8],
-    t: Trailer,
-    frees: &[u64],
-    choices: &[u8],
+    ground: &Ground,
     threads: &mut [u32],
     markers: &mut [u16],
     counts: Counts,
     allowed: u32,
 ) -> Walk
-    requires prepared { Prepared file.now t frees.now choices.now }
-    requires counts_value { formed (array_of file.now t) (lent_of threads.old markers.old counts) ≡ true }
+    requires { formed (array_in ground.now.array) (lent_of threads.old markers.old counts) ≡ true }
     ensures { walked_of result threads.new markers.new
-        ≡ walk_in (array_of file.now t) (choices_of choices.now) allowed (lent_of threads.old markers.old counts) }
+        ≡ walk_in (array_in ground.now.array) (choices_of ground.now.choices.now) allowed
+        (lent_of threads.old markers.old counts) }
 {
     let mut allowance = Allowance::new(allowed);
     let mut used = counts;
     loop {
-        let stride = stride_formed(file, t, frees, choices, threads, markers, used, allowance);
+        let stride = stride_formed(ground, threads, markers, used, allowance);
         match stride {
             Stride::Ended(ending) => {
                 return Walk {
@@ -291,53 +257,58 @@ fn walk_formed(
             }
             Stride::Made(turn) => {
                 used = turn.counts;
-                let lessened = turn.allowance;
-                allowance = lessened;
+                allowance = turn.allowance;
             }
         }
     }
 }
 
-// The walk: 23, or how it ended.
+// The walk: how it ended, or 23.
 pub fn walk_lists(
-    file: &[u8],
-    t: Trailer,
+    array: &ArrayFile,
     choices: &[u8],
     threads: &mut [u32],
     markers: &mut [u16],
     counts: Counts,
     allowed: u32,
-) -> Walked
-    requires { IsRead file.now t × (length choices.now ≡ 128) }
-    ensures { WalkedAs (array_of file.now t) (choices_of choices.now) allowed
+) -> Result<Walk, Reason>
+    requires { IsRead array.now.bytes.now array.now.trailer × (length choices.now ≡ 128) }
+    ensures { WalkedAs (array_in array.now) (choices_of choices.now) allowed
         (lent_of threads.old markers.old counts) result threads.new markers.new }
 {
     let mut frees = [0u64; 4096];
-    if !lent::lists_formed(&mut frees, file, t, threads, markers, counts) {
-        return Walked::Refused(23);
+    if !lent::lists_formed(&mut frees, array, threads, markers, counts) {
+        return Err(Reason::Lists);
     }
-    Walked::Walked(walk_formed(file, t, &frees, choices, threads, markers, counts, allowed))
+    let ground = Ground {
+        array: *array,
+        frees: &frees,
+        choices,
+    };
+    Ok(walk_formed(&ground, threads, markers, counts, allowed))
 }
 
-// One turn of the walk: 23, an ending, or the step made.
+// One turn of the walk: an ending or the step made, or 23.
 pub fn next_turn(
-    file: &[u8],
-    t: Trailer,
+    array: &ArrayFile,
     choices: &[u8],
     threads: &mut [u32],
     markers: &mut [u16],
     counts: Counts,
     allowance: Allowance,
-) -> Strode
-    requires { IsRead file.now t × (length choices.now ≡ 128) }
-    ensures { Turns (array_of file.now t) (choices_of choices.now) allowance
+) -> Result<Stride, Reason>
+    requires { IsRead array.now.bytes.now array.now.trailer × (length choices.now ≡ 128) }
+    ensures { Turns (array_in array.now) (choices_of choices.now) allowance
         (lent_of threads.old markers.old counts) result threads.new markers.new }
 {
     let mut frees = [0u64; 4096];
-    if !lent::lists_formed(&mut frees, file, t, threads, markers, counts) {
-        return Strode::Refused(23);
+    if !lent::lists_formed(&mut frees, array, threads, markers, counts) {
+        return Err(Reason::Lists);
     }
-    Strode::Strode(stride_formed(
-        file, t, &frees, choices, threads, markers, counts, allowance,
-    ))
+    let ground = Ground {
+        array: *array,
+        frees: &frees,
+        choices,
+    };
+    Ok(stride_formed(&ground, threads, markers, counts, allowance))
 }

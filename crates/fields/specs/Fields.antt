@@ -1,17 +1,17 @@
 -- Refusals 6, 7, 8 and 10 (01, "Refusals, in checking order").
-use Rattle.std.specs.Prelude.{ℕ, Bool, cond, not, ◌&&◌, ◌||◌, List, ◌++◌, eqb, ltb, leb, get_or}
+use Rattle.std.specs.Prelude.{ℕ, Bool, not, ◌&&◌, ◌||◌, List, ◌++◌, eqb, ltb, leb, get_or}
 use Rattle.laws.specs.Search.{Found, first, every}
 use Rattle.laws.specs.Lists.{all}
 use Rattle.model.specs.Formed.{Refusal, refuse, child_fits, children, uses, binds}
 use Rattle.records.specs.declared.Record.{Record}
 use Rattle.records.specs.declared.Trailer.{Trailer}
-use Rattle.records.specs.Record.{node_of, record_of}
+use Rattle.records.specs.Record.{kind_number, node_of, record_of}
 
 -- ---- refusals of one record
 
 -- "6. A kind is above 6, an arity is above 8, or kinds 0 to 3 have an arity (place: node)."
 abbrev pub shape_fits : Record → Bool
-shape_fits r = leb r.kind 6 && leb r.arity 8 && (leb 4 r.kind || eqb r.arity 0)
+shape_fits r = leb (kind_number r.kind) 6 && leb r.arity 8 && (leb 4 (kind_number r.kind) || eqb r.arity 0)
 
 -- argument byte k is zero, or the arity says that it is used
 abbrev pub rest_zero : Record → ℕ → Bool
@@ -21,9 +21,9 @@ rest_zero r k = ltb k r.arity || eqb (get_or r.args k 0) 0
 abbrev pub fields_zero : Record → Bool
 fields_zero r =
     eqb r.pad 0
-    && (not (eqb r.kind 0) || eqb r.left 0)
-    && (eqb r.kind 2 || eqb r.kind 3 || eqb r.right 0)
-    && (eqb r.kind 1 || leb 4 r.kind || eqb r.name 0)
+    && (not (eqb (kind_number r.kind) 0) || eqb r.left 0)
+    && (eqb (kind_number r.kind) 2 || eqb (kind_number r.kind) 3 || eqb r.right 0)
+    && (eqb (kind_number r.kind) 1 || leb 4 (kind_number r.kind) || eqb r.name 0)
 
 -- "7. An unused field isn't zero (node)." Agents use as many arguments as their arity says.
 abbrev pub unused_zero : Record → Bool
@@ -39,20 +39,6 @@ names_fit n r = all (λ v. ltb v n) (uses (node_of r) ++ binds (node_of r))
 -- for 10, by positions: argument byte k is a name below n, or the arity says that it is not used
 abbrev pub arg_below : ℕ → Record → ℕ → Bool
 arg_below n r k = leb r.arity k || ltb (get_or r.args k 0) n
-
--- the test of refusal 6, 7, 8 or 10, by its number
-abbrev pub passes : ℕ → Trailer → ℕ → Record → Bool
-passes number t i r =
-    cond (eqb number 6) (shape_fits r)
-    (cond (eqb number 7) (unused_zero r)
-    (cond (eqb number 8) (children_fit t.nodes i r) (names_fit t.names r)))
-
--- that refusal at node i, and at its lowest node
-unfoldable pub bad_at : ℕ → List ℕ → Trailer → ℕ → Found Refusal
-bad_at number s t i = refuse number i (passes number t i (record_of s t i))
-
-unfoldable pub first_bad : ℕ → List ℕ → Trailer → Found Refusal
-first_bad number s t = first t.nodes (bad_at number s t)
 
 -- "6." and "7." over the whole array; 8 to 12 are the model's
 unfoldable pub refusal6 : List ℕ → Trailer → Found Refusal

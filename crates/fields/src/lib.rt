@@ -3,30 +3,39 @@
 // Depends on records, wire, model and laws.
 #![tactic(auto)]
 
-ghost use Rattle.std.specs.Prelude.{◌≡◌, ◌+◌};
-ghost use Rattle.laws.specs.Search.{every};
-ghost use Rattle.records.specs.Record.{RecordsFit, found_of};
-ghost use Rattle.fields.specs.Fields.{shape_fits, rest_zero, fields_zero, unused_zero, children_fit, arg_below, names_fit, passes, first_bad};
+ghost use Rattle.std.specs.Prelude.{◌≡◌, Bool, leb, ℕ, ◌+◌, ◌<◌};
+ghost use Rattle.laws.specs.Search.{first, every};
+ghost use Rattle.model.specs.Formed.{refuse, refusal8, refusal10};
+ghost use Rattle.records.specs.Record.{kind_number, record_of, number_of, found_of};
+ghost use Rattle.records.specs.ArrayFile.{array_in};
+ghost use Rattle.fields.specs.Fields.{shape_fits, rest_zero, fields_zero, unused_zero, children_fit, arg_below, names_fit, refusal6, refusal7};
 
-use records::{Check, Record, Refusal, Trailer};
+use records::{ArrayFile, Kind, Reason, Record, Refusal};
+
+// The kind is one of 01's.
+fn is_named(r: Record) -> bool
+    ensures { result ≡ leb (kind_number r.kind) 6 }
+{
+    match r.kind {
+        Kind::Other(_) => false,
+        _ => true,
+    }
+}
 
 // Refusal 6 passes.
 pub fn shape_fits(r: Record) -> bool
     ensures { result ≡ shape_fits r }
 {
-    (r.kind <= 6) & (r.arity <= 8) & ((4 <= r.kind) | (r.arity == 0))
+    is_named(r) & (r.arity <= 8) & (records::is_agent(r) | (r.arity == 0))
 }
 
 // The argument bytes past the arity are zero.
 fn rest_zero(r: Record) -> bool
     ensures { result ≡ every 8 (rest_zero r) }
 {
-    let args = r.args;
     let mut zero = true;
-    let mut k: usize = 0;
-    while k < 8 {
-        zero = zero & ((k < r.arity) | (args[k] == 0));
-        k += 1;
+    for (k, arg) in r.args.iter().enumerate() {
+        zero &= (k < r.arity) | (*arg == 0);
     }
     zero
 }
@@ -36,9 +45,9 @@ pub fn fields_zero(r: Record) -> bool
     ensures { result ≡ fields_zero r }
 {
     (r.pad == 0)
-        & ((r.kind != 0) | (r.left == 0))
-        & ((r.kind == 2) | (r.kind == 3) | (r.right == 0))
-        & ((r.kind == 1) | (4 <= r.kind) | (r.name == 0))
+        & (!records::is_stop(r) | (r.left == 0))
+        & (records::is_par(r) | records::is_choice(r) | (r.right == 0))
+        & (records::is_new(r) | records::is_agent(r) | (r.name == 0))
 }
 
 // Refusal 7 passes.
@@ -52,20 +61,17 @@ fn unused_zero(r: Record) -> bool
 pub fn children_fit(m: usize, i: usize, r: Record) -> bool
     ensures { result ≡ children_fit m i r }
 {
-    ((r.kind == 0) | ((i < r.left) & (r.left < m)))
-        & (((r.kind != 2) & (r.kind != 3)) | ((i < r.right) & (r.right < m)))
+    (records::is_stop(r) | ((i < r.left) & (r.left < m)))
+        & (!records::branches(r) | ((i < r.right) & (r.right < m)))
 }
 
 // The arguments are names below n.
 fn args_below(n: usize, r: Record) -> bool
     ensures { result ≡ every 8 (arg_below n r) }
 {
-    let args = r.args;
     let mut below = true;
-    let mut k: usize = 0;
-    while k < 8 {
-        below = below & ((r.arity <= k) | (wire::byte_index(args[k]) < n));
-        k += 1;
+    for (k, arg) in r.args.iter().enumerate() {
+        below &= (r.arity <= k) | (usize::from(*arg) < n);
     }
     below
 }
@@ -74,37 +80,48 @@ fn args_below(n: usize, r: Record) -> bool
 fn names_fit(n: usize, r: Record) -> bool
     ensures { result ≡ names_fit n r }
 {
-    ((r.kind != 1) | (r.name < n)) & ((r.kind < 4) | ((r.name < n) & args_below(n, r)))
+    (!records::is_new(r) | (r.name < n))
+        & (!records::is_agent(r) | ((r.name < n) & args_below(n, r)))
 }
 
-// Refusal 6, 7, 8 or 10 passes at node i.
-fn node_passes(number: u8, t: Trailer, i: usize, r: Record) -> bool
-    ensures { result ≡ passes number t i r }
+// Refusal 6.
+pub fn bad_shape(array: &ArrayFile) -> Result<(), Refusal>
+    ensures { found_of result ≡ refusal6 array.now.bytes.now array.now.trailer }
 {
-    if number == 6 {
-        return shape_fits(r);
-    }
-    if number == 7 {
-        return unused_zero(r);
-    }
-    if number == 8 {
-        return children_fit(t.nodes, i, r);
-    }
-    names_fit(t.names, r)
+    records::first_failing(
+        array.trailer.nodes,
+        Reason::Shape,
+        |i| shape_fits(array.node_at(i)),
+    )
 }
 
-// Refusal 6, 7, 8 or 10 at the first node that it names.
-pub fn first_bad(number: u8, file: &[u8], t: Trailer) -> Check
-    requires { RecordsFit file.now t }
-    ensures { found_of result ≡ first_bad number file.now t }
+// Refusal 7.
+pub fn bad_unused(array: &ArrayFile) -> Result<(), Refusal>
+    ensures { found_of result ≡ refusal7 array.now.bytes.now array.now.trailer }
 {
-    let mut i: usize = 0;
-    while i < t.nodes {
-        let r = records::node_at(file, t, i);
-        if !node_passes(number, t, i, r) {
-            return Check::Refused(Refusal { number, place: i });
-        }
-        i += 1;
-    }
-    Check::Passed
+    records::first_failing(
+        array.trailer.nodes,
+        Reason::Unused,
+        |i| unused_zero(array.node_at(i)),
+    )
+}
+
+// Refusal 8.
+pub fn bad_child(array: &ArrayFile) -> Result<(), Refusal>
+    ensures { found_of result ≡ refusal8 (array_in array.now) }
+{
+    let m = array.trailer.nodes;
+    records::first_failing(m, Reason::Child, |i| children_fit(m, i, array.node_at(i)))
+}
+
+// Refusal 10.
+pub fn bad_name(array: &ArrayFile) -> Result<(), Refusal>
+    ensures { found_of result ≡ refusal10 (array_in array.now) }
+{
+    let n = array.trailer.names;
+    records::first_failing(
+        array.trailer.nodes,
+        Reason::Name,
+        |i| names_fit(n, array.node_at(i)),
+    )
 }

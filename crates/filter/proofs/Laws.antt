@@ -6,11 +6,9 @@ use mathlib.Core.Logic.{inl, inr}
 use mathlib.Core.Bool.{true, false, true≢false}
 use mathlib.Core.List.{List}
 use lib.Dec.{eqb}
-use lib.ListN.{replicate, length-replicate}
 use borrow.Author.Tests.{eqb-true, eqb-false, ltb-false, le-leb, not-true}
 use Rattle.laws.specs.Search.{clear}
 use Rattle.laws.proofs.Search.{decided, and-join, every_true, true-every}
-use Rattle.laws.proofs.Lists.{slice_index-zeros}
 use Rattle.marks.specs.Marks.{marked}
 use Rattle.marks.proofs.Laws.{inside-trans, share-inside}
 use Rattle.model.specs.Memory.{is_out}
@@ -18,15 +16,22 @@ use Rattle.records.specs.declared.Record.{Record}
 use Rattle.records.specs.Record.{node_of}
 use Rattle.records.specs.Kinds.{is_receiver}
 use Rattle.records.proofs.KindLaws.{sender-is}
-use Rattle.loads.specs.Loads.{entry_index, load_in}
+use Rattle.loads.specs.Loads.{load_in}
 use Rattle.pairs.specs.declared.Side.{Side}
 use Rattle.pairs.specs.Pairs.{Setting, Given, Held, array_in, table_in, pairs_at, figures_of, all_hold, breaks_pair, need_of, taken_of}
 use Rattle.pairs.proofs.Laws.{near, alive, live-near, arities, live-shares}
 use Rattle.pairs.proofs.ByDifference.{light}
 use Rattle.pairs.proofs.Search.{sound-row}
-use Rattle.senders.specs.Sets.{every_name, arity_mark, Family, family, Room, Covers, Collected, Linked, Gathered}
+use Rattle.pairs.proofs.Beside.{given-beside}
+use Rattle.senders.specs.Sets.{every_name, arity_mark, Family, Covers, Collected, Linked, Gathered}
 use Rattle.senders.proofs.Laws.{sends-any}
+use Rattle.filter.specs.declared.Sieve.{Sieve}
 use Rattle.filter.specs.Filter.{may_come, figures_pass, SetSound, Sound}
+use Rattle.filter.specs.Sieve.{setting_in, Sieves}
+
+-- a sieve's rows and weighing are what pairs are looked for in
+pub given-in : {s : Sieve} → Sieves s → Given (setting_in s)
+given-in {s} h = given-beside s.w.now s.rows.now h.many_rows
 
 -- a pair that is not live, or at which the rule holds, breaks nothing
 unbroken : (rule : ℕ) (S : Setting) (p q : Side) → (alive S p q ≡ true → all_hold rule S.n S.rows S.loads p q ≡ true) → breaks_pair rule S p q ≡ false
@@ -100,12 +105,3 @@ pub sound-node : (rule : ℕ) {S : Setting} {p : Side} → Given S → Held S p 
     → pairs_at rule (array_in S) (table_in S) p.number ≡ clear
 sound-node rule {S} {p} g hp rp sound =
     sound-row rule g hp rp (λ q hq. elim (decided (is_out (node_of q.node))) [ inl e ↦ sound q hq e | inr e ↦ rw e ])
-
--- sets without a sender
-pub empty-room : Room (family (replicate 288 0) (replicate 432 0) (replicate 4 0))
-empty-room = record {
-  needs = length-replicate {A = ℕ} 288 0;
-  unions = length-replicate {A = ℕ} 432 0;
-  arities = length-replicate {A = ℕ} 4 0;
-  half = λ g k. rw (slice_index-zeros 288 (entry_index g k)) (omega arith);
-}

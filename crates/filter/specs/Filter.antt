@@ -4,9 +4,9 @@ use Rattle.std.specs.Prelude.{ℕ, ◌+◌, ◌<◌, ◌≡◌, Bool, true, fals
 use Rattle.laws.specs.Search.{every}
 use Rattle.marks.specs.Marks.{HasRow, marked, share, inside}
 use Rattle.model.specs.Memory.{is_out, is_resource}
-use Rattle.records.specs.declared.Record.{Record}
 use Rattle.records.specs.Record.{node_of}
 use Rattle.loads.specs.Loads.{entry_index, load_in}
+use Rattle.records.specs.declared.Record.{Record}
 use Rattle.pairs.specs.declared.Side.{Side}
 use Rattle.pairs.specs.Pairs.{Setting, Held, gone_of, breaks_pair}
 use Rattle.senders.specs.Sets.{every_name, sends_by, arity_mark, sent_row}
@@ -31,6 +31,7 @@ figures_pass rule n needs unions rows loads g p =
 
 -- ---- what the lists have of a set and a receiver
 
+-- what is sent and what is bound as each argument has a row
 abbrev pub ArgRows : List ℕ → List ℕ → ℕ → Record → Type 0
 ArgRows unions rows g r = (m : ℕ) → m < r.arity → (m < 8) × HasRow unions (sent_row g m) × HasRow rows (get_or r.args m 0)
 

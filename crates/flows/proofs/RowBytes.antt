@@ -1,6 +1,6 @@
 -- The bytes of rows: their bits are the rows', and what is written in place of a table's rows makes the table anew.
 use Prim.Native.Nat.{ℕ, zero, suc, ◌+◌, ◌*◌, ◌-◌, ◌/◌, ◌%◌, ◌^◌, ◌≤◌, ◌<◌}
-use native.Mathlib.Nat.{add-zero, not-suc-le-zero, le_of_suc-le-suc, eq-or-lt_of_le, pow-suc}
+use native.Mathlib.Nat.{add-zero, div-one, not-suc-le-zero, le_of_suc-le-suc, eq-or-lt_of_le, pow-suc}
 use native.Mathlib.Numerals.{add-one}
 use native.Mathlib.Omega.{arith}
 use mathlib.Core.Path.{◌≡◌, refl, sym, ap, ap₂, ◌∙◌}
@@ -10,7 +10,9 @@ use mathlib.Core.List.{List, [], ◌∷◌, ◌++◌, append_assoc}
 use lib.Dec.{eqb}
 use lib.ListN.{length, get_or, set, take, drop, length-append, length-drop, take-append-drop, get_or-append}
 use lib.Pow.{shr-shr}
-use lib.Seq.{get_or_at, take_at, drop-append-le, length-take-le, take-suc, get_or-append-add, get_or-drop, get_or-take}
+use mir.Syntax.{w64}
+use Rattle.std.specs.Int.{to_le_bytes}
+use lib.Seq.{get_or_at, take_at, drop-append-le, length-take-le, get_or-append-add, get_or-drop, get_or-take}
 use Rattle.laws.specs.Search.{sum}
 use Rattle.laws.specs.Lists.{All, one, put}
 use Rattle.laws.specs.Bits.{bit}
@@ -132,17 +134,24 @@ put_next xs l i x e h =
     let at : i ≡ 0 + length xs = omega arith in
     ap (λ (n : ℕ). set (put 0 xs l) n x) at ∙ set-put 0 xs l (omega arith) x (omega arith)
 
--- a turn of `copy_bytes`, and of `put_rows`
-pub byte-copied : (s l : List ℕ) (i : ℕ) → i < length s → length s ≤ length l → set (put 0 (take i s) l) i (get_or s i 0) ≡ put 0 (take (i + 1) s) l
-byte-copied s l i h k =
-    put_next (take i s) l i (get_or s i 0) (length-take-le i s (omega arith)) (omega arith)
-    ∙ ap (λ (t : List ℕ). put 0 t l) (sym (take-suc s i 0 h) ∙ ap (λ (n : ℕ). take n s) (sym (add-one i)))
+-- byte k of a word
+word-byte : (n k : ℕ) → k < 8 → get_or (to_le_bytes w64 n) k 0 ≡ n / 2 ^ (8 * k) % 256
+word-byte n zero h = ap (λ (m : ℕ). m % 256) (sym (div-one n))
+word-byte n (suc zero) h = refl
+word-byte n (suc (suc zero)) h = refl
+word-byte n (suc (suc (suc zero))) h = refl
+word-byte n (suc (suc (suc (suc zero)))) h = refl
+word-byte n (suc (suc (suc (suc (suc zero))))) h = refl
+word-byte n (suc (suc (suc (suc (suc (suc zero)))))) h = refl
+word-byte n (suc (suc (suc (suc (suc (suc (suc zero))))))) h = refl
+word-byte n (suc (suc (suc (suc (suc (suc (suc (suc k)))))))) h = absurd (omega (arith, h))
 
-pub byte_put : (rows l : List ℕ) (i x : ℕ) → i < length l → x ≡ get_or rows (i / 8) 0 / 2 ^ (8 * (i % 8)) % 256
-    → set (put 0 (row_bytes i (marked rows)) l) i x ≡ put 0 (row_bytes (i + 1) (marked rows)) l
-byte_put rows l i x h e =
-    put_next (row_bytes i (marked rows)) l i x (length-row_bytes i (marked rows)) h
-    ∙ ap (λ (n : ℕ). put 0 (row_bytes i (marked rows) ++ (n ∷ [])) l) (e ∙ marked-byte rows i)
+-- a turn of `put_rows`
+pub byte_put : (rows l : List ℕ) (i : ℕ) → i < length l
+    → set (put 0 (row_bytes i (marked rows)) l) i (get_or (to_le_bytes w64 (get_or rows (i / 8) 0)) (i % 8) 0) ≡ put 0 (row_bytes (i + 1) (marked rows)) l
+byte_put rows l i h =
+    put_next (row_bytes i (marked rows)) l i _ (length-row_bytes i (marked rows)) h
+    ∙ ap (λ (n : ℕ). put 0 (row_bytes i (marked rows) ++ (n ∷ [])) l) (word-byte (get_or rows (i / 8) 0) (i % 8) (omega arith) ∙ marked-byte rows i)
     ∙ ap (λ (t : List ℕ). put 0 t l) (sym (row_bytes-step i (marked rows)))
 
 -- what was written before, and is no longer, is gone

@@ -8,24 +8,22 @@ ghost use Rattle.laws.specs.Lists.{has};
 ghost use Rattle.laws.specs.Bits.{bit};
 ghost use Rattle.model.specs.Tree.{is_new};
 ghost use Rattle.model.specs.Formed.{children, uses};
-ghost use Rattle.records.specs.Record.{RecordsFit, node_of, array_of};
+ghost use Rattle.records.specs.Record.{node_of};
+ghost use Rattle.records.specs.ArrayFile.{array_in};
 ghost use Rattle.marks.specs.Marks.{word_at, HasRow, marked};
 ghost use Rattle.arrays.specs.File.{IsRead};
 ghost use Rattle.frees.specs.Frees.{at_child, RowsAbove, RowFilled, AllFree};
 
-use records::{Record, Trailer};
+use records::{ArrayFile, Record};
 
 // The names that news open, marked in a row.
-pub fn opened(file: &[u8], t: Trailer) -> [u64; 4]
-    requires { RecordsFit file.now t }
-    ensures { (o : ℕ) → marked result 0 o ≡ is_new (array_of file.now t) o }
+pub fn opened(array: &ArrayFile) -> [u64; 4]
+    ensures { (o : ℕ) → marked result 0 o ≡ is_new (array_in array.now) o }
 {
     let mut row = [0u64; 4];
-    let mut i: usize = 0;
-    while i < t.nodes {
-        let r = records::node_at(file, t, i);
+    for i in 0..array.trailer.nodes {
+        let r = array.node_at(i);
         marks::mark_if(&mut row, records::is_new(r), r.name);
-        i += 1;
     }
     row
 }
@@ -64,24 +62,19 @@ fn fill_row(frees: &mut [u64], i: usize, r: Record)
 {
     let used = used_by(r);
     let bound = scopes::bound_by(r);
-    let mut w: usize = 0;
-    while w < 4 {
+    for w in 0..4 {
         let inside = below(frees, r, w);
         let own = inside & bound[w];
         marks::set_word(frees, i, w, used[w] | (inside ^ own));
-        w += 1;
     }
 }
 
 // The free names of all nodes.
-pub fn fill_frees(frees: &mut [u64], file: &[u8], t: Trailer)
-    requires { IsRead file.now t × (length frees.old ≡ 4096) }
-    ensures { AllFree frees.new (array_of file.now t) }
+pub fn fill_frees(frees: &mut [u64], array: &ArrayFile)
+    requires { IsRead array.now.bytes.now array.now.trailer × (length frees.old ≡ 4096) }
+    ensures { AllFree frees.new (array_in array.now) }
 {
-    let mut i = t.nodes;
-    while 0 < i {
-        i -= 1;
-        let r = records::node_at(file, t, i);
-        fill_row(frees, i, r);
+    for i in (0..array.trailer.nodes).rev() {
+        fill_row(frees, i, array.node_at(i));
     }
 }

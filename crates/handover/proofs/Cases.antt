@@ -8,6 +8,7 @@ use mathlib.Core.List.{List, [], ◌∷◌, map}
 use lib.Dec.{eqb, ltb}
 use lib.ListN.{get_or}
 use borrow.Author.Tests.{eqb-true, ltb-true}
+use Rattle.std.specs.Prelude.{Result, Ok, Err}
 use Rattle.laws.specs.Search as F
 use Rattle.laws.specs.Lists as L
 use Rattle.laws.specs.Lists.{All}
@@ -32,22 +33,20 @@ use Rattle.records.specs.Record as R
 use Rattle.fields.specs.Fields as D
 use Rattle.layout.specs.Table as Y
 use Rattle.arrays.specs.File.{remark_of, read_array}
+use Rattle.records.specs.declared.Refusal.{Refusal}
 use Rattle.records.specs.declared.Trailer.{Trailer}
 use Rattle.layout.specs.declared.Sizes.{Sizes}
 use Rattle.handover.specs.Front.{judged, Judges, array_in, sizes_in, table_in, array_read, table_read}
 use Rattle.handover.proofs.Laws.{read_table_lem, ruled-judges, untouched}
 use Rattle.handover.proofs.Refusals.{read-array}
 use Rattle.engine.specs.declared.Walk.{Walk}
-use Rattle.rules.specs.declared.Ruling.TheVariants as K
 use Rattle.handover.specs.Bodies.{verdict_of}
-use Rattle.handover.specs.declared.WalkAnswer.{WalkAnswer}
-use Rattle.handover.specs.declared.WalkAnswer.TheVariants.{Walked, Refused}
-use Rattle.handover.specs.Engine.{start_of, step_of, walk_of, next_left, stride_of, Left, says_walk}
+use Rattle.handover.specs.Engine.{start_of, step_of, walk_of, next_left, stride_of, Left}
 use Rattle.handover.specs.Files.{pis, nodes_a, in_order_a, turned_a, repeated_a, Case, cases, Unkept, Kept, remark, remarked_b}
 use Rattle.handover.specs.Files.{tables_read, arrays_read, Letters, Denies, unmended}
 use Rattle.handover.specs.Files.{Answered, calls, to_left, Ended, Answers, endings, Unlisted}
 use Rattle.handover.specs.Mending.{mend_reply, mend_output}
-use Rattle.handover.specs.Refusals.{done, TableNumber, StartNumber, WalkNumber}
+use Rattle.handover.specs.Refusals.{done, said, TableNumber, StartNumber, WalkNumber}
 
 -- Whoever unfolds this unfolds every definition behind the answer.
 computed : Unit {0}
@@ -134,9 +133,9 @@ unfolding computed
 repeated-alike = alike-by repeated_a refl refl refl refl
 
 -- what is promised of the table in order, which is held
-promised : Judges file_a in_order_a (verdict_of K.Held (sizes_in file_a in_order_a))
+promised : Judges file_a in_order_a (Ok (verdict_of (Ok tt) (sizes_in file_a in_order_a)))
 unfolding computed
-promised = ruled-judges file_a in_order_a refl (read-array file_a refl) (read_table_lem file_a in_order_a refl) K.Held refl
+promised = ruled-judges file_a in_order_a refl (read-array file_a refl) (read_table_lem file_a in_order_a refl) (Ok tt) refl
 
 pub kept : Kept
 unfolding computed
@@ -192,9 +191,9 @@ calls-hold = (refl, (refl, (refl, (refl, (refl, tt)))))
 done-same : {A : Type 0} {x y : A} → done x ≡ done y → x ≡ y
 done-same e = cc
 
-answer-same : (w : Walk) (x : WalkAnswer) → says_walk x ≡ done w → x ≡ Walked w
-answer-same w (Walked v) e = ap Walked (done-same e)
-answer-same w (Refused r) e = let z : true ≡ false = cc in absurd (true≢false z)
+answer-same : (w : Walk) (x : Result Walk Refusal) → said x ≡ done w → x ≡ Ok w
+answer-same w (Ok v) e = ap Ok (done-same e)
+answer-same w (Err r) e = let z : true ≡ false = cc in absurd (true≢false z)
 
 -- the reply that the definition gives names the answer
 answer-is : (c : Ended) → (walk_of c.array to_left c.lent c.allowed).reply ≡ done c.walk → Answers c

@@ -7,6 +7,7 @@ use mathlib.Core.Logic.{◌↔◌}
 use mathlib.Core.Bool.{true, false, true≢false}
 use mathlib.Core.List.{List, [], ◌∷◌}
 use lib.ListN.{get_or}
+use Rattle.std.specs.Prelude.{Result, Ok, Err}
 use Rattle.laws.specs.Search.{Found, clear, hit}
 use Rattle.laws.specs.Lists.{All}
 use Rattle.laws.proofs.Search.{clear-hit, and_then-split, and_then-join, clear-and_then, hit-and_then}
@@ -25,29 +26,25 @@ use Rattle.model.proofs.Alike.{rules-alike, sums-alike, safe-alike}
 use Rattle.model.proofs.Configs.{reached}
 use Rattle.records.specs.declared.Refusal.{Refusal}
 use Rattle.records.specs.declared.Trailer.{Trailer}
-use Rattle.records.specs.Record.{array_of}
-use Rattle.arrays.specs.declared.ArrayAnswer.{ArrayAnswer}
-use Rattle.arrays.specs.declared.ArrayAnswer.TheVariants as A
+use Rattle.records.specs.Record.{told, answered, array_of}
 use Rattle.arrays.specs.File.{trailer_of, array_refusal, trailer_answer, read_array, IsRead}
 use Rattle.arrays.proofs.Laws.{read-passes, read-refuses, read_is}
 use Rattle.layout.specs.declared.Sizes.{Sizes}
 use Rattle.layout.specs.Table.{claim_at, sizes_of, table_of, IsTable}
 use Rattle.layout.proofs.Laws.{claim-bytes}
 use Rattle.claims.proofs.Laws.{claims-named, sets-agree, claims-rise}
-use Rattle.tables.specs.declared.TableAnswer.{TableAnswer}
 use Rattle.tables.specs.Read as T
 use Rattle.tables.specs.Read.{table_refusal, files_refusal, read_table}
 use Rattle.tables.proofs.Laws.{Passed, passed, passed-table}
 use Rattle.tables.proofs.OneFile as W
-use Rattle.rules.specs.declared.Ruling.{Ruling}
-use Rattle.rules.specs.declared.Ruling.TheVariants as R
+use Rattle.rules.specs.declared.Broken.{Broken}
+use Rattle.rules.specs.declared.Broken.TheVariants as R
 use Rattle.rules.specs.Ruling.{ruled}
 use Rattle.handover.specs.declared.Verdict.{Verdict}
-use Rattle.handover.specs.declared.Verdict.TheVariants.{Held, Refused}
 use Rattle.handover.specs.Front.{Outcome, held, rule, says, IsHeld, array_in, sizes_in, table_in, after_rules, judged, Demand3, Judges}
-use Rattle.handover.specs.Front.{says_array, says_table, array_read, table_read, OneOrder, OneFile, ArrayPromise, TablePromise, Untouched}
+use Rattle.handover.specs.Front.{array_read, table_read, OneOrder, OneFile, ArrayPromise, TablePromise, Untouched}
 use Rattle.handover.specs.Bodies.{verdict_of}
-use Rattle.handover.specs.Refusals.{Reply, done, refused, unless_refused, ArrayNumber, TableNumber}
+use Rattle.handover.specs.Refusals.{Reply, done, refused, said, unless_refused, ArrayNumber, TableNumber}
 use Rattle.handover.proofs.Refusals.{Small, read-array, array-small, files-small}
 
 -- ---- the readers
@@ -57,17 +54,27 @@ reply-listed : {A : Type 0} (P : ℕ → Type 0) (x : Found F.Refusal) (a : A) �
 reply-listed P clear a s n p e = let z : true ≡ false = cc in absurd (true≢false z)
 reply-listed P (hit r) a s n p e = let z : r.number ≡ n = cc in subst P z (s r refl).0
 
-array-says : (x : Found F.Refusal) (t : Trailer) → says_array (trailer_answer x t) ≡ unless_refused x t
+-- an answer with the refusal in 01's numbers
+module _ {A : Type 0} where
+  abbrev reply : Result A F.Refusal → Reply A
+  reply (Ok x) = done x
+  reply (Err r) = refused r.number r.place
+
+  said_is : (x : Result A Refusal) → said x ≡ reply (answered x)
+  said_is (Ok x) = refl
+  said_is (Err r) = refl
+
+array-says : (x : Found F.Refusal) (t : Trailer) → reply (trailer_answer x t) ≡ unless_refused x t
 array-says clear t = refl
 array-says (hit r) t = refl
 
-pub array-promise : (f : List ℕ) (x : ArrayAnswer) → x ≡ read_array f → ArrayPromise f x
+pub array-promise : (f : List ℕ) (x : Result Trailer Refusal) → answered x ≡ read_array f → ArrayPromise f x
 unfolding read_array array_read
 array-promise f x e =
-    let a : says_array x ≡ array_read f = ap says_array e ∙ array-says (array_refusal f) (trailer_of f) in
+    let a : said x ≡ array_read f = said_is x ∙ ap reply e ∙ array-says (array_refusal f) (trailer_of f) in
     record { answers = a; listed = λ n p q. reply-listed ArrayNumber (array_refusal f) _ (array-small f) n p (sym a ∙ q) }
 
-table-says : (x : Found F.Refusal) (z : Sizes) → says_table (T.sizes_answer x z) ≡ unless_refused x z
+table-says : (x : Found F.Refusal) (z : Sizes) → reply (T.sizes_answer x z) ≡ unless_refused x z
 table-says clear z = refl
 table-says (hit r) z = refl
 
@@ -93,10 +100,10 @@ one-file f s bytes e u all d alike same =
     let was : (w : List ℕ) → files_refusal f w ≡ clear → Passed f (trailer_of f) w = λ w q. passed f (trailer_of f) w (and_then-split (array_refusal f) _ q).1 in
     W.one-file f (trailer_of f) s u bytes (small u all) (was s e) (was u d) alike same
 
-pub table-promise : (f s : List ℕ) (x : TableAnswer) → ((i : ℕ) → get_or s i 0 < 256) → x ≡ read_table f s → TablePromise f s x
+pub table-promise : (f s : List ℕ) (x : Result Sizes Refusal) → ((i : ℕ) → get_or s i 0 < 256) → answered x ≡ read_table f s → TablePromise f s x
 unfolding read_table table_read
 table-promise f s x bytes e =
-    let a : says_table x ≡ table_read f s = ap says_table e ∙ table-says (files_refusal f s) (sizes_in f s) in
+    let a : said x ≡ table_read f s = said_is x ∙ ap reply e ∙ table-says (files_refusal f s) (sizes_in f s) in
     record {
       answers = a;
       order = λ z q. one-order f s bytes (was_read (files_refusal f s) _ z (sym a ∙ q));
@@ -131,10 +138,10 @@ broken (done (rule r figures)) = hit (at r figures)
 broken (refused n p) = clear
 
 module _ (f s : List ℕ) where
-  pub refused-judges : (r : Refusal) → files_refusal f s ≡ hit record { number = r.number; place = r.place } → Judges f s (Refused r)
+  pub refused-judges : (r : Refusal) → files_refusal f s ≡ hit (told r) → Judges f s (Err r)
   unfolding judged
   refused-judges r e =
-      let a : says (Refused r) ≡ judged f s = sym (rw e) in
+      let a : says (Err r) ≡ judged f s = sym (rw e) in
       record {
         answers = a;
         exactly = λ none. clear-hit _ (sym none ∙ e);
@@ -149,21 +156,21 @@ module _ (f s : List ℕ) where
     abbrev sized : Outcome
     sized = held (sizes_in f s)
 
-    ruled-says : (x : Ruling) → done (after_rules (ruled x) sized) ≡ says (verdict_of x (sizes_in f s))
-    ruled-says R.Held = refl
-    ruled-says (R.Rule1 o) = refl
-    ruled-says (R.Rule2 k) = refl
-    ruled-says (R.Rule3 p q n) = refl
-    ruled-says (R.Rule4 p q k) = refl
-    ruled-says (R.Rule5 c) = refl
+    ruled-says : (x : Result (Unit {0}) Broken) → done (after_rules (ruled x) sized) ≡ says (Ok (verdict_of x (sizes_in f s)))
+    ruled-says (Ok u) = refl
+    ruled-says (Err (R.Rule1 o)) = refl
+    ruled-says (Err (R.Rule2 k)) = refl
+    ruled-says (Err (R.Rule3 p q n)) = refl
+    ruled-says (Err (R.Rule4 p q k)) = refl
+    ruled-says (Err (R.Rule5 c)) = refl
 
-    broken-ruled : (x : Ruling) → broken (says (verdict_of x (sizes_in f s))) ≡ ruled x
-    broken-ruled R.Held = refl
-    broken-ruled (R.Rule1 o) = refl
-    broken-ruled (R.Rule2 k) = refl
-    broken-ruled (R.Rule3 p q n) = refl
-    broken-ruled (R.Rule4 p q k) = refl
-    broken-ruled (R.Rule5 c) = refl
+    broken-ruled : (x : Result (Unit {0}) Broken) → broken (says (Ok (verdict_of x (sizes_in f s)))) ≡ ruled x
+    broken-ruled (Ok u) = refl
+    broken-ruled (Err (R.Rule1 o)) = refl
+    broken-ruled (Err (R.Rule2 k)) = refl
+    broken-ruled (Err (R.Rule3 p q n)) = refl
+    broken-ruled (Err (R.Rule4 p q k)) = refl
+    broken-ruled (Err (R.Rule5 c)) = refl
 
     -- what refusals 21 and 30 leave of the claims
     named : Named (array_in f) (table_in f s)
@@ -178,15 +185,15 @@ module _ (f s : List ℕ) where
         let c = set-claim (table_in f s) q i e in
         subst (λ x. x < (array_in f).size) (sym c.3) (agent-inside (array_in f) _ (named c.0 c.1).0)
 
-    pub ruled-judges : (x : Ruling) → ruled x ≡ verdict (array_in f) (table_in f s) → Judges f s (verdict_of x (sizes_in f s))
+    pub ruled-judges : (x : Result (Unit {0}) Broken) → ruled x ≡ verdict (array_in f) (table_in f s) → Judges f s (Ok (verdict_of x (sizes_in f s)))
     unfolding judged
     ruled-judges x e =
-        let a : says (verdict_of x (sizes_in f s)) ≡ judged f s = sym (rw (clear', ← e) (ruled-says x)) in
-        let exact : IsHeld (says (verdict_of x (sizes_in f s))) ↔ Rules (array_in f) (table_in f s) =
+        let a : says (Ok (verdict_of x (sizes_in f s))) ≡ judged f s = sym (rw (clear', ← e) (ruled-says x)) in
+        let exact : IsHeld (says (Ok (verdict_of x (sizes_in f s)))) ↔ Rules (array_in f) (table_in f s) =
         subst (λ y. IsHeld y ↔ Rules (array_in f) (table_in f s)) (sym a) (held-exactly f s clear') in
-        let breaks : (n : ℕ) (l : List ℕ) → says (verdict_of x (sizes_in f s)) ≡ done (rule n l) → FirstBroken (array_in f) (table_in f s) (at n l) =
+        let breaks : (n : ℕ) (l : List ℕ) → says (Ok (verdict_of x (sizes_in f s))) ≡ done (rule n l) → FirstBroken (array_in f) (table_in f s) (at n l) =
         λ n figures h. first-broken (array_in f) (table_in f s) (at n figures) (sym e ∙ sym (broken-ruled x) ∙ ap broken h) in
-        let safe : IsHeld (says (verdict_of x (sizes_in f s))) → Demand3 f s =
+        let safe : IsHeld (says (Ok (verdict_of x (sizes_in f s)))) → Demand3 f s =
         λ h. demand3 (array_in f) (table_in f s) read.formed (λ c k. (named c k).1) ((held-rules (array_in f) (table_in f s)).1 (exact.0 h)) in
         record {
           answers = a;
@@ -199,23 +206,22 @@ module _ (f s : List ℕ) where
         }
 
   -- the same by what the calls answered: trailer t, sizes z, ruling x
-  pub passed-judges : (t : Trailer) (z : Sizes) (x : Ruling) → read_array f ≡ A.Read t → table_refusal f t s ≡ clear → z ≡ sizes_of t s
-      → ruled x ≡ verdict (array_of f t) (table_of s z) → Judges f s (verdict_of x z)
+  pub passed-judges : (t : Trailer) (z : Sizes) (x : Result (Unit {0}) Broken) → read_array f ≡ Ok t → table_refusal f t s ≡ clear → z ≡ sizes_of t s
+      → ruled x ≡ verdict (array_of f t) (table_of s z) → Judges f s (Ok (verdict_of x z))
   passed-judges t z x e none size found =
       let p = read-passes f t e in
       let none' : table_refusal f (trailer_of f) s ≡ clear = subst (λ u. table_refusal f u s ≡ clear) (sym p.1) none in
       let size' : z ≡ sizes_in f s = size ∙ ap (λ u. sizes_of u s) (sym p.1) in
       let found' : ruled x ≡ verdict (array_in f) (table_in f s) =
       found ∙ ap (λ u. verdict (array_of f u) (table_of s z)) (sym p.1) ∙ ap (λ u. verdict (array_in f) (table_of s u)) size' in
-      subst (λ u. Judges f s (verdict_of x u)) (sym size')
+      subst (λ u. Judges f s (Ok (verdict_of x u))) (sym size')
       (ruled-judges (and_then-join (array_refusal f) _ p.0 none') (subst (IsRead f) (sym p.1) (read_is f t e))
       (passed-table f (trailer_of f) s none') x found')
 
-  pub array-refused : (r : Refusal) → read_array f ≡ A.Refused r → Judges f s (Refused r)
-  array-refused r e = refused-judges r (hit-and_then (array_refusal f) _ _ (read-refuses f r e))
+  pub array-refused : (r : Refusal) → read_array f ≡ Err (told r) → Judges f s (Err r)
+  array-refused r e = refused-judges r (hit-and_then (array_refusal f) _ _ (read-refuses f (told r) e))
 
-  pub table-refused : (t : Trailer) (r : Refusal) → read_array f ≡ A.Read t → hit record { number = r.number; place = r.place } ≡ table_refusal f t s
-      → Judges f s (Refused r)
+  pub table-refused : (t : Trailer) (r : Refusal) → read_array f ≡ Ok t → hit (told r) ≡ table_refusal f t s → Judges f s (Err r)
   table-refused t r e found =
       let p = read-passes f t e in
       refused-judges r (clear-and_then (array_refusal f) (table_refusal f (trailer_of f) s) p.0 ∙ ap (λ u. table_refusal f u s) p.1 ∙ sym found)

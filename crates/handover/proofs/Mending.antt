@@ -8,6 +8,7 @@ use mathlib.Core.Bool.{true, false, true≢false}
 use mathlib.Core.List.{List}
 use lib.ListN.{length, get_or, take, drop}
 use borrow.Author.Tests.{le-leb, lt-leb}
+use Rattle.std.specs.Prelude.{Ok, Err}
 use Rattle.laws.specs.Search.{clear, hit}
 use Rattle.laws.specs.Lists.{put}
 use Rattle.laws.proofs.Search.{implies, test-clear, clear-test, hit-test, and_then-split, and_then-join, clear-and_then, hit-and_then, first-clear, every_true}
@@ -20,8 +21,8 @@ use Rattle.model.proofs.Mend.{SameRows, contained-both, bits_none, none-bits, bi
 use Rattle.model.proofs.Mend.{smallest-opened, mends-rows, smallest-rows, rules-left}
 use Rattle.records.specs.declared.Refusal.{Refusal}
 use Rattle.records.specs.declared.Trailer.{Trailer}
-use Rattle.records.specs.Record.{array_of}
-use Rattle.arrays.specs.declared.ArrayAnswer.TheVariants as A
+use Rattle.records.specs.declared.Reason.TheVariants.{Output}
+use Rattle.records.specs.Record.{told, array_of}
 use Rattle.arrays.specs.File.{trailer_of, array_refusal, read_array}
 use Rattle.arrays.proofs.Laws.{read-passes, read-refuses}
 use Rattle.layout.specs.declared.Sizes.{Sizes}
@@ -30,7 +31,6 @@ use Rattle.flows.specs.Written.{rewritten}
 use Rattle.tables.specs.Read.{table_refusal, files_refusal}
 use Rattle.tables.proofs.Laws.{passed}
 use Rattle.tables.proofs.Rewritten.{same_length, same-sizes, same-bound, same-weight, same-claim, as-mended, read_again, same-file}
-use Rattle.handover.specs.declared.MendAnswer.TheVariants.{Mended, Refused}
 use Rattle.handover.specs.Front.{array_in, sizes_in, table_in}
 use Rattle.handover.specs.Refusals.{done, MendNumber}
 use Rattle.handover.specs.Mending.{refusal32, mend_refusal, mended_rows, mended_table, mend_reply, mend_output, MendedTable, MendPromise}
@@ -115,40 +115,40 @@ module _ (f s : List ℕ) (none : files_refusal f s ≡ clear) (bytes : (i : ℕ
 -- ---- the answer
 
 module _ (f s out : List ℕ) where
-  pub mend-refused : (r : Refusal) → mend_refusal f s out ≡ hit record { number = r.number; place = r.place } → MendNumber r.number
-      → MendPromise f s out (Refused r) out
+  pub mend-refused : (r : Refusal) → mend_refusal f s out ≡ hit (told r) → MendNumber (told r).number
+      → MendPromise f s out (Err r) out
   unfolding mend_reply mend_output
   mend-refused r e h = record {
     answers = sym (rw e);
     leaves = sym (rw e);
     mends = λ n q. let z : true ≡ false = cc in absurd (true≢false z);
-    listed = λ n p q. let z : r.number ≡ n = cc in subst MendNumber z h;
+    listed = λ n p q. let z : (told r).number ≡ n = cc in subst MendNumber z h;
     kept = λ n p q. refl;
     past = λ n q. let z : true ≡ false = cc in absurd (true≢false z);
   }
 
   -- one of the readers'
-  files-refused : (r : Refusal) → files_refusal f s ≡ hit record { number = r.number; place = r.place } → MendPromise f s out (Refused r) out
+  files-refused : (r : Refusal) → files_refusal f s ≡ hit (told r) → MendPromise f s out (Err r) out
   files-refused r e = mend-refused r (hit-and_then (files_refusal f s) (refusal32 s out) _ e) (inl (files-small f s _ e).0)
 
-  pub mend-array-refused : (r : Refusal) → read_array f ≡ A.Refused r → MendPromise f s out (Refused r) out
-  mend-array-refused r e = files-refused r (hit-and_then (array_refusal f) _ _ (read-refuses f r e))
+  pub mend-array-refused : (r : Refusal) → read_array f ≡ Err (told r) → MendPromise f s out (Err r) out
+  mend-array-refused r e = files-refused r (hit-and_then (array_refusal f) _ _ (read-refuses f (told r) e))
 
-  pub mend-table-refused : (t : Trailer) (r : Refusal) → read_array f ≡ A.Read t
-      → hit record { number = r.number; place = r.place } ≡ table_refusal f t s → MendPromise f s out (Refused r) out
+  pub mend-table-refused : (t : Trailer) (r : Refusal) → read_array f ≡ Ok t
+      → hit (told r) ≡ table_refusal f t s → MendPromise f s out (Err r) out
   mend-table-refused t r e found =
       let p = read-passes f t e in
       files-refused r (clear-and_then (array_refusal f) (table_refusal f (trailer_of f) s) p.0 ∙ ap (λ u. table_refusal f u s) p.1 ∙ sym found)
 
-  files-passed : (t : Trailer) → read_array f ≡ A.Read t → table_refusal f t s ≡ clear → files_refusal f s ≡ clear
+  files-passed : (t : Trailer) → read_array f ≡ Ok t → table_refusal f t s ≡ clear → files_refusal f s ≡ clear
   files-passed t e none =
       let p = read-passes f t e in
       and_then-join (array_refusal f) _ p.0 (subst (λ (y : Trailer). table_refusal f y s ≡ clear) (sym p.1) none)
 
-  pub mend-short : (t : Trailer) → read_array f ≡ A.Read t → table_refusal f t s ≡ clear → length out < length s
-      → MendPromise f s out (Refused record { number = 32; place = 0 }) out
+  pub mend-short : (t : Trailer) → read_array f ≡ Ok t → table_refusal f t s ≡ clear → length out < length s
+      → MendPromise f s out (Err record { reason = Output; place = 0 }) out
   mend-short t e none h =
-      mend-refused record { number = 32; place = 0 }
+      mend-refused record { reason = Output; place = 0 }
       (clear-and_then (files_refusal f s) (refusal32 s out) (files-passed t e none) ∙ hit-test _ _ (lt-leb (length s) (length out) h)) (inr refl)
 
   module _ (none : files_refusal f s ≡ clear) (room : length s ≤ length out) (bytes : (i : ℕ) → get_or s i 0 < 256) where
@@ -167,7 +167,7 @@ module _ (f s out : List ℕ) where
         let e : length u ≡ length s = (mended-table f s none bytes).size in
         (length-put 0 u out (omega arith), drop_past 0 u out (omega arith) (length s) (omega arith))
 
-    mend-done : let n = bits_set (array_in f) (table_in f s).row (mended_rows f s) in MendPromise f s out (Mended n) (put 0 (mended_table f s) out)
+    mend-done : let n = bits_set (array_in f) (table_in f s).row (mended_rows f s) in MendPromise f s out (Ok n) (put 0 (mended_table f s) out)
     unfolding mend_reply mend_output
     mend-done =
         let passes : mend_refusal f s out ≡ clear = and_then-join (files_refusal f s) _ none (clear-test _ _ (le-leb (length s) (length out) room)) in
@@ -183,10 +183,10 @@ module _ (f s out : List ℕ) where
           past = λ n q. behind;
         }
 
-  pub mend-passed : (t : Trailer) (z : Sizes) (n : ℕ) (left : List ℕ) → read_array f ≡ A.Read t → table_refusal f t s ≡ clear → z ≡ sizes_of t s
+  pub mend-passed : (t : Trailer) (z : Sizes) (n : ℕ) (left : List ℕ) → read_array f ≡ Ok t → table_refusal f t s ≡ clear → z ≡ sizes_of t s
       → length s ≤ length out → ((i : ℕ) → get_or s i 0 < 256)
       → n ≡ bits_set (array_of f t) (table_of s z).row (mended (array_of f t) (table_of s z))
-      → left ≡ put 0 (rewritten z (mended (array_of f t) (table_of s z)) s) out → MendPromise f s out (Mended n) left
+      → left ≡ put 0 (rewritten z (mended (array_of f t) (table_of s z)) s) out → MendPromise f s out (Ok n) left
   mend-passed t z n left e none size room bytes counted wrote =
       let p = sym (read-passes f t e).1 in
       let size' : z ≡ sizes_in f s = size ∙ ap (λ (y : Trailer). sizes_of y s) p in
@@ -194,6 +194,6 @@ module _ (f s out : List ℕ) where
       counted ∙ ap₂ (λ (y : Trailer) (w : Sizes). bits_set (array_of f y) (table_of s w).row (mended (array_of f y) (table_of s w))) p size' in
       let file : left ≡ put 0 (mended_table f s) out =
       wrote ∙ ap₂ (λ (y : Trailer) (w : Sizes). put 0 (rewritten w (mended (array_of f y) (table_of s w)) s) out) p size' in
-      subst (λ (m : ℕ). MendPromise f s out (Mended m) left) (sym bits)
-      (subst (MendPromise f s out (Mended (bits_set (array_in f) (table_in f s).row (mended_rows f s)))) (sym file)
+      subst (λ (m : ℕ). MendPromise f s out (Ok m) left) (sym bits)
+      (subst (MendPromise f s out (Ok (bits_set (array_in f) (table_in f s).row (mended_rows f s)))) (sym file)
       (mend-done (files-passed t e none) room bytes))

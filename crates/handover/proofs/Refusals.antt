@@ -6,6 +6,7 @@ use mathlib.Core.Logic.{inl, inr, ⊎_elim}
 use mathlib.Core.Bool.{Bool, true, false, true≢false}
 use mathlib.Core.List.{List, []}
 use mathlib.Core.Option.{Option, none, some}
+use Rattle.std.specs.Prelude.{Ok}
 use Rattle.laws.specs.Search.{Found, clear, hit, and_then, first}
 use Rattle.laws.proofs.Search.{test-clear, test-hit, and_then-hit, first-hit}
 use Rattle.model.specs.Tree.{Array, Agent}
@@ -19,7 +20,6 @@ use Rattle.model.proofs.Engine.{Fate, crowded, unlisted, stored, fitted-fate}
 use Rattle.records.specs.declared.Trailer.{Trailer}
 use Rattle.records.specs.Record.{array_of}
 use Rattle.fields.specs.Fields.{refusal6, refusal7}
-use Rattle.arrays.specs.declared.ArrayAnswer.TheVariants as A
 use Rattle.arrays.specs.File.{trailer_of, array_refusal, refusal1, refusal2, refusal3, refusal4, refusal5, from6, read_array, trailer_answer, IsRead}
 use Rattle.arrays.proofs.Laws.{read_is, counts-fit}
 use Rattle.layout.specs.Table.{sizes_of, table_of, refusal13, refusal14, refusal15, refusal16, refusal17, refusal18, refusal19, refusal20}
@@ -28,9 +28,9 @@ use Rattle.tables.specs.Read.{table_refusal, files_refusal}
 use Rattle.tables.proofs.Laws as L
 use Rattle.handover.specs.Front.{array_in}
 use Rattle.handover.specs.Engine.{start_refusal, lent_refusal}
-use Rattle.handover.specs.Refusals.{ArrayNumber, TableNumber, MendNumber, StartNumber, StepNumber, WalkNumber}
+use Rattle.handover.specs.Refusals.{ArrayNumber, TableNumber, StartNumber, StepNumber, WalkNumber}
 
-pub reads : (f : List ℕ) → array_refusal f ≡ clear → read_array f ≡ A.Read (trailer_of f)
+pub reads : (f : List ℕ) → array_refusal f ≡ clear → read_array f ≡ Ok (trailer_of f)
 unfolding read_array
 reads f c = ap (λ (y : Found F.Refusal). trailer_answer y (trailer_of f)) c
 
@@ -185,27 +185,3 @@ start-number a ch m n e = fate (fitted-fate a m (start (words []) a ch) [])
     fate (crowded q k) = inr (inr (sym (stops-inj (sym q ∙ e))))
     fate (unlisted q k) = absurd (omega arith)
     fate (stored q k l) = leave-stop _ n (sym q ∙ e)
-
--- ---- every number is at most 39
-
-pub table-few : (n : ℕ) → TableNumber n → n ≤ 39
-table-few n (inl h) = omega (arith, h.1)
-table-few n (inr h) = omega (arith, h.1)
-
-pub mend-few : (n : ℕ) → MendNumber n → n ≤ 39
-mend-few n (inl h) = table-few n h
-mend-few n (inr h) = omega arith
-
-pub start-few : (n : ℕ) → StartNumber n → n ≤ 39
-start-few n (inl h) = omega (arith, h.1)
-start-few n (inr (inl h)) = omega arith
-start-few n (inr (inr h)) = omega arith
-
-pub step-few : (n : ℕ) → StepNumber n → n ≤ 39
-step-few n (inl h) = omega (arith, h.1)
-step-few n (inr h) = omega (arith, h.1)
-
-pub walk-few : (n : ℕ) → WalkNumber n → n ≤ 39
-walk-few n (inl h) = omega (arith, h.1)
-walk-few n (inr (inl h)) = omega arith
-walk-few n (inr (inr h)) = omega arith

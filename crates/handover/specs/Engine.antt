@@ -1,6 +1,7 @@
 -- The engine's entries: what a call answers in 01's numbers, what it must answer and leave in both lists, and what that says in the
 -- terms of the calculus.
 use Rattle.std.specs.Prelude.{ℕ, suc, ◌-◌, ◌≡◌, true, List, [], get_or}
+use Rattle.std.specs.Prelude as P
 use Rattle.laws.specs.Search.{Found, clear, hit, and_then}
 use Rattle.model.specs.Tree.{Array}
 use Rattle.model.specs.Formed as F
@@ -10,48 +11,16 @@ use Rattle.model.specs.declared.Ending.{Ending}
 use Rattle.model.specs.Memory as M
 use Rattle.model.specs.Memory.{Memory, memory, config_of, formed, refusal22, refusal23, Result, stops, leaves, start_in, step_in, walk_in, try}
 use Rattle.model.specs.Memory.{marker_made, Next, moved, next_in, resumed, stands_for, Starts, Follows, Walks, Ends, Tells}
+use Rattle.records.specs.declared.Refusal.{Refusal}
 use Rattle.arrays.specs.File.{array_refusal}
 use Rattle.lent.specs.declared.Counts.{Counts}
 use Rattle.engine.specs.declared.Allowance.{Allowance}
 use Rattle.engine.specs.declared.Turn.{Turn}
 use Rattle.engine.specs.declared.Walk.{Walk}
-use Rattle.handover.specs.declared.StartAnswer.{StartAnswer}
-use Rattle.handover.specs.declared.StartAnswer.TheVariants as Start
-use Rattle.handover.specs.declared.StepAnswer.{StepAnswer}
-use Rattle.handover.specs.declared.StepAnswer.TheVariants as Step
-use Rattle.handover.specs.declared.StrideAnswer.{StrideAnswer}
-use Rattle.handover.specs.declared.StrideAnswer.TheVariants as Stride
-use Rattle.handover.specs.declared.WalkAnswer.{WalkAnswer}
-use Rattle.handover.specs.declared.WalkAnswer.TheVariants as Walk
+use Rattle.handover.specs.declared.Told.{Told}
+use Rattle.handover.specs.declared.Told.TheVariants.{Made, Ended}
 use Rattle.handover.specs.Front.{array_in}
-use Rattle.handover.specs.Refusals.{Reply, done, refused, StartNumber, StepNumber, WalkNumber}
-
--- ---- answers in 01's numbers
-
--- the thread count after a start
-abbrev pub says_start : StartAnswer → Reply ℕ
-says_start (Start.Started k) = done k
-says_start (Start.Refused r) = refused r.number r.place
-
--- the counts of threads and markers after a step
-abbrev pub says_step : StepAnswer → Reply Counts
-says_step (Step.Stepped n) = done n
-says_step (Step.Refused r) = refused r.number r.place
-
--- how a walk ended, the steps made and the counts
-abbrev pub says_walk : WalkAnswer → Reply Walk
-says_walk (Walk.Walked w) = done w
-says_walk (Walk.Refused r) = refused r.number r.place
-
--- a step of a walk as it is told, or an ending without a step and the steps made before it
-pub data Told : Type 0 where
-  turned : Turn → Told
-  ended : Ending → ℕ → Told
-
-abbrev pub says_stride : StrideAnswer → Reply Told
-says_stride (Stride.Made t) = done (turned t)
-says_stride (Stride.Ended e n) = done (ended e n)
-says_stride (Stride.Refused r) = refused r.number r.place
+use Rattle.handover.specs.Refusals.{Reply, done, refused, said, StartNumber, StepNumber, WalkNumber}
 
 -- ---- what a call leaves: its reply, and every word of both lists
 
@@ -103,7 +72,7 @@ walk_of f choices m allowed = left_unless (lent_refusal f choices m) m (walk_lef
 -- the walk's next step, told: the two agents of the pair, the marker number, the counts after it, and one step less left; or its ending, with
 -- the steps made before it, which are those allowed less those left
 unfoldable pub next_left : Array → Memory → Allowance → Next → Left Told
-next_left a m w (M.ended x) = unchanged (done (ended x (w.allowed - w.left))) m
+next_left a m w (M.ended x) = unchanged (done (Ended x (w.allowed - w.left))) m
 next_left a m w (moved u n) =
     let told : Turn = record {
       receiver = (get_or (config_of a m) u.receiver nobody).agent;
@@ -112,7 +81,7 @@ next_left a m w (moved u n) =
       counts = counts_in n;
       allowance = record { allowed = w.allowed; left = w.left - 1 };
     } in
-    left (done (turned told)) n.threads n.markers
+    left (done (Made told)) n.threads n.markers
 
 unfoldable pub stride_of : List ℕ → List ℕ → Memory → Allowance → Left Told
 stride_of f choices m w = left_unless (lent_refusal f choices m) m (next_left (array_in f) m w (next_in (array_in f) (choices_of choices) w.left m))
@@ -120,23 +89,23 @@ stride_of f choices m w = left_unless (lent_refusal f choices m) m (next_left (a
 -- a walk followed to its end by strides, each lent the lists, the counts and the allowance that the last one left: the number of steps told,
 -- then the ending, the steps made as they are told with it, and the lists
 pub data Followed (f choices : List ℕ) : Memory → Allowance → ℕ → Ending → ℕ → Memory → Type 0 where
-  over : (m : Memory) (w : Allowance) (x : Ending) (s : ℕ) → stride_of f choices m w ≡ unchanged (done (ended x s)) m → Followed f choices m w 0 x s m
-  then : (m : Memory) (w : Allowance) (t : Turn) (ts ms : List ℕ) → stride_of f choices m w ≡ left (done (turned t)) ts ms
+  over : (m : Memory) (w : Allowance) (x : Ending) (s : ℕ) → stride_of f choices m w ≡ unchanged (done (Ended x s)) m → Followed f choices m w 0 x s m
+  then : (m : Memory) (w : Allowance) (t : Turn) (ts ms : List ℕ) → stride_of f choices m w ≡ left (done (Made t)) ts ms
       → (n : ℕ) (x : Ending) (s : ℕ) (e : Memory) → Followed f choices (memory ts t.counts.threads ms t.counts.markers) t.allowance n x s e
       → Followed f choices m w (suc n) x s e
 
 -- ---- the whole promise of each entry
 
-pub record StartPromise (f choices : List ℕ) (m : Memory) (x : StartAnswer) (l : List ℕ) : Type 0 where
-  pub leaves : left (says_start x) l [] ≡ start_of f choices m
+pub record StartPromise (f choices : List ℕ) (m : Memory) (x : P.Result ℕ Refusal) (l : List ℕ) : Type 0 where
+  pub leaves : left (said x) l [] ≡ start_of f choices m
   -- where nothing is refused before 28, the lists hold the calculus' start, or it has more threads than fit
   pub starts : start_refusal f choices ≡ clear → Starts (array_in f) (choices_of choices) m (start_in (array_in f) (choices_of choices) m)
   -- and what a start leaves is well formed
   pub formed : start_refusal f choices ≡ clear → (n : Memory) → start_in (array_in f) (choices_of choices) m ≡ M.leaves n → formed (array_in f) n ≡ true
-  pub listed : (n p : ℕ) → says_start x ≡ refused n p → StartNumber n
+  pub listed : (n p : ℕ) → said x ≡ refused n p → StartNumber n
 
-pub record StepPromise (f choices : List ℕ) (m : Memory) (r s : ℕ) (x : StepAnswer) (l ml : List ℕ) : Type 0 where
-  pub leaves : left (says_step x) l ml ≡ step_of f choices m r s
+pub record StepPromise (f choices : List ℕ) (m : Memory) (r s : ℕ) (x : P.Result Counts Refusal) (l ml : List ℕ) : Type 0 where
+  pub leaves : left (said x) l ml ≡ step_of f choices m r s
   -- where nothing is refused before 24: refused by 24 to 27 exactly as the calculus refuses; else the calculus' step, unless 28 or 29
   -- stops it
   pub follows : lent_refusal f choices m ≡ clear
@@ -144,10 +113,10 @@ pub record StepPromise (f choices : List ℕ) (m : Memory) (r s : ℕ) (x : Step
       (step_in (array_in f) m (try (choices_of choices) r s))
   -- a step keeps 23
   pub formed : lent_refusal f choices m ≡ clear → (n : Memory) → step_in (array_in f) m (try (choices_of choices) r s) ≡ M.leaves n → formed (array_in f) n ≡ true
-  pub listed : (n p : ℕ) → says_step x ≡ refused n p → StepNumber n
+  pub listed : (n p : ℕ) → said x ≡ refused n p → StepNumber n
 
-pub record WalkPromise (f choices : List ℕ) (m : Memory) (allowed : ℕ) (x : WalkAnswer) (l ml : List ℕ) : Type 0 where
-  pub leaves : left (says_walk x) l ml ≡ walk_of f choices m allowed
+pub record WalkPromise (f choices : List ℕ) (m : Memory) (allowed : ℕ) (x : P.Result Walk Refusal) (l ml : List ℕ) : Type 0 where
+  pub leaves : left (said x) l ml ≡ walk_of f choices m allowed
   -- where nothing is refused: as many steps of the calculus as the answer says, each of the first ready pair, lead to what the lists hold
   pub walks : lent_refusal f choices m ≡ clear
       → Walks (array_in f) (choices_of choices) (walk_in (array_in f) (choices_of choices) allowed m).steps (stands_for (array_in f) m)
@@ -157,10 +126,10 @@ pub record WalkPromise (f choices : List ℕ) (m : Memory) (allowed : ℕ) (x : 
       → Ends (array_in f) (choices_of choices) allowed (walk_in (array_in f) (choices_of choices) allowed m)
       (walk_in (array_in f) (choices_of choices) allowed m).ending
   pub formed : lent_refusal f choices m ≡ clear → formed (array_in f) (walk_in (array_in f) (choices_of choices) allowed m).left ≡ true
-  pub listed : (n p : ℕ) → says_walk x ≡ refused n p → WalkNumber n
+  pub listed : (n p : ℕ) → said x ≡ refused n p → WalkNumber n
 
-pub record StridePromise (f choices : List ℕ) (m : Memory) (w : Allowance) (x : StrideAnswer) (l ml : List ℕ) : Type 0 where
-  pub leaves : left (says_stride x) l ml ≡ stride_of f choices m w
+pub record StridePromise (f choices : List ℕ) (m : Memory) (w : Allowance) (x : P.Result Told Refusal) (l ml : List ℕ) : Type 0 where
+  pub leaves : left (said x) l ml ≡ stride_of f choices m w
   -- the walk that is left is this ending, or this step and the walk from there with one step less left
   pub tells : walk_in (array_in f) (choices_of choices) w.left m
       ≡ resumed (array_in f) (choices_of choices) w.left m (next_in (array_in f) (choices_of choices) w.left m)
@@ -174,4 +143,4 @@ pub record StridePromise (f choices : List ℕ) (m : Memory) (w : Allowance) (x 
   -- a step keeps 23
   pub formed : lent_refusal f choices m ≡ clear → (u : Attempt) (n : Memory) → next_in (array_in f) (choices_of choices) w.left m ≡ moved u n
       → formed (array_in f) n ≡ true
-  pub listed : (n p : ℕ) → says_stride x ≡ refused n p → WalkNumber n
+  pub listed : (n p : ℕ) → said x ≡ refused n p → WalkNumber n

@@ -1,11 +1,14 @@
 -- Array and table files, written out byte by byte, and the marked cases of 01 over them as rows of one table (01, "Arrays A, B
 -- and C"); what the other entries answer and leave on such files, as rows too.
-use Rattle.std.specs.Prelude.{ℕ, ◌+◌, ◌-◌, ◌/◌, ◌≡◌, List, [], ◌∷◌, ◌++◌, length, replicate}
+use Rattle.std.specs.Prelude.{ℕ, ◌+◌, ◌-◌, ◌/◌, ◌≡◌, List, [], ◌∷◌, ◌++◌, length, replicate, Result, Ok, Some}
 use Rattle.laws.specs.Search.{hit}
 use Rattle.wire.specs.Numbers.{word_sum, le16, le32, sealed}
 use Rattle.model.specs.Rules.{Rules}
+use Rattle.records.specs.declared.Refusal.{Refusal}
+use Rattle.records.specs.declared.Form.TheVariants.{Pis1}
 use Rattle.records.specs.declared.Trailer.{Trailer}
 use Rattle.arrays.specs.File.{pis1}
+use Rattle.layout.specs.declared.Form.TheVariants.{Pic1}
 use Rattle.layout.specs.declared.Sizes.{Sizes}
 use Rattle.layout.specs.Table.{pic1}
 use Rattle.model.specs.declared.Ending.TheVariants.{Quiet, Spent, Full}
@@ -18,10 +21,9 @@ use Rattle.engine.specs.declared.Walk.{Walk}
 use Rattle.handover.specs.Refusals.{done, refused, ArrayNumber, TableNumber, MendNumber, StartNumber, StepNumber, WalkNumber}
 use Rattle.handover.specs.Front.{array_in, table_in, Outcome, held, rule, SameBytes, OneOrder, OneFile, Demand3, SetsBounded}
 use Rattle.handover.specs.Mending.{mend_reply, mend_output}
-use Rattle.handover.specs.Engine as E
-use Rattle.handover.specs.Engine.{Told, turned, Left, left, start_of, step_of, stride_of, WalkPromise}
-use Rattle.handover.specs.declared.WalkAnswer.{WalkAnswer}
-use Rattle.handover.specs.declared.WalkAnswer.TheVariants.{Walked}
+use Rattle.handover.specs.Engine.{Left, left, start_of, step_of, stride_of, WalkPromise}
+use Rattle.handover.specs.declared.Told.{Told}
+use Rattle.handover.specs.declared.Told.TheVariants as T
 
 -- ---- writing files
 
@@ -143,7 +145,7 @@ two_balances =
 
 -- M, N, K and Q of a table lettered PIC1
 abbrev pub sizes : ℕ → ℕ → ℕ → ℕ → Sizes
-sizes m n k q = record { nodes = m; names = n; balances = k; claims = q; form = 1 }
+sizes m n k q = record { nodes = m; names = n; balances = k; claims = q; form = Some Pic1 }
 
 pub record Case : Type 0 where
   pub array : List ℕ
@@ -216,7 +218,7 @@ abbrev pub tables_read : List (List ℕ × List ℕ × Sizes)
 tables_read = (pis 3 nodes_a, two_balances, sizes 8 3 2 4) ∷ []
 
 abbrev pub arrays_read : List (List ℕ × Trailer)
-arrays_read = (remarked_b, record { start = 8; nodes = 7; names = 1; sum = 68485668; form = 1 }) ∷ []
+arrays_read = (remarked_b, record { start = 8; nodes = 7; names = 1; sum = 68485668; form = Some Pis1 }) ∷ []
 
 -- the letters that the files end with: P, I, S, 1 and P, I, C, 1
 abbrev pub Letters : Type 0
@@ -329,9 +331,9 @@ calls =
     ∷ step (pis 5 nodes_e) to_right started_e 1 0 (left (done (counts 3 1)) stepped_e (4 ∷ 3 ∷ 0 ∷ 0 ∷ 9 ∷ []))
     -- the same step beside two threads of agent 5, its marker listed, in a walk of 300 steps with 7 left
     ∷ stride (pis 5 nodes_e) to_right (memory (words_e ++ (five ++ (five ++ replicate 8 7))) 4 entries_e 2) record { allowed = 300; left = 7 }
-    (left (done (turned told_e)) (four ++ (five ++ (five ++ (ten ++ (five ++ (7 ∷ [])))))) entries_e)
+    (left (done (T.Made told_e)) (four ++ (five ++ (five ++ (ten ++ (five ++ (7 ∷ [])))))) entries_e)
     -- B with a ready pair and none of 300 steps left
-    ∷ stride (pis 1 nodes_b) to_left (started_b []) record { allowed = 300; left = 0 } (left (done (E.ended Spent 300)) (started_b []).threads [])
+    ∷ stride (pis 1 nodes_b) to_left (started_b []) record { allowed = 300; left = 0 } (left (done (T.Ended Spent 300)) (started_b []).threads [])
     ∷ []
 
 -- ---- the walk's own answer: whatever answer has the promise on these files and lists is this one
@@ -346,7 +348,7 @@ abbrev pub walk_case : List ℕ → Memory → ℕ → Walk → Ended
 walk_case f m k w = record { array = f; lent = m; allowed = k; walk = w }
 
 abbrev pub Answers : Ended → Type 0
-Answers c = (x : WalkAnswer) (l ml : List ℕ) → WalkPromise c.array to_left c.lent c.allowed x l ml → x ≡ Walked c.walk
+Answers c = (x : Result Walk Refusal) (l ml : List ℕ) → WalkPromise c.array to_left c.lent c.allowed x l ml → x ≡ Ok c.walk
 
 abbrev pub endings : List Ended
 endings =

@@ -1,5 +1,5 @@
 -- The front page's definitions: what the readers' and the checker's answers say, what they must say, and what held promises.
-use Rattle.std.specs.Prelude.{ℕ, ◌+◌, ◌≤◌, ◌<◌, ◌≡◌, ◌↔◌, false, List, [], ◌∷◌, get_or}
+use Rattle.std.specs.Prelude.{ℕ, ◌+◌, ◌≤◌, ◌<◌, ◌≡◌, ◌↔◌, false, List, [], ◌∷◌, get_or, Result, Ok, Err}
 use Rattle.laws.specs.Search.{clear, hit}
 use Rattle.laws.specs.Lists.{All}
 use Rattle.model.specs.Tree.{Array}
@@ -8,19 +8,16 @@ use Rattle.model.specs.Rules as M
 use Rattle.model.specs.Rules.{Table, together, Each, Rules, at, verdict, FirstBroken}
 use Rattle.model.specs.Safe.{set_sum, Safe}
 use Rattle.model.specs.Same.{Alike, SameClaims}
+use Rattle.records.specs.declared.Refusal.{Refusal}
 use Rattle.records.specs.declared.Trailer.{Trailer}
-use Rattle.records.specs.Record.{array_of}
-use Rattle.arrays.specs.declared.ArrayAnswer.{ArrayAnswer}
-use Rattle.arrays.specs.declared.ArrayAnswer.TheVariants as A
+use Rattle.records.specs.Record.{number_of, array_of}
 use Rattle.arrays.specs.File.{trailer_of, array_refusal}
 use Rattle.layout.specs.declared.Sizes.{Sizes}
 use Rattle.layout.specs.Table.{claim_at, sizes_of, table_of, refusal21}
-use Rattle.tables.specs.declared.TableAnswer.{TableAnswer}
-use Rattle.tables.specs.declared.TableAnswer.TheVariants as T
 use Rattle.tables.specs.Read.{files_refusal}
 use Rattle.handover.specs.declared.Verdict.{Verdict}
-use Rattle.handover.specs.declared.Verdict.TheVariants.{Held, Rule1, Rule2, Rule3, Rule4, Rule5, Refused}
-use Rattle.handover.specs.Refusals.{Reply, done, refused, unless_refused, ArrayNumber, TableNumber}
+use Rattle.handover.specs.declared.Verdict.TheVariants.{Held, Rule1, Rule2, Rule3, Rule4, Rule5}
+use Rattle.handover.specs.Refusals.{Reply, done, refused, said, unless_refused, ArrayNumber, TableNumber}
 
 -- ---- what the bytes stand for
 
@@ -35,26 +32,17 @@ table_in f s = table_of s (sizes_in f s)
 
 -- ---- the readers
 
--- each case of the array reader's answer: what the trailer says ("start of the records (32 bits), M (16), N (16), word sum (32)", and the
--- format that its letters name), or the refusal
-abbrev pub says_array : ArrayAnswer → Reply Trailer
-says_array (A.Read t) = done t
-says_array (A.Refused r) = refused r.number r.place
-
--- each case of the table reader's answer: M, N, K, Q and the format, or the refusal
-abbrev pub says_table : TableAnswer → Reply Sizes
-says_table (T.Read z) = done z
-says_table (T.Refused r) = refused r.number r.place
-
+-- what the trailer says ("start of the records (32 bits), M (16), N (16), word sum (32)", and the format that its letters name), or the refusal
 unfoldable pub array_read : List ℕ → Reply Trailer
 array_read f = unless_refused (array_refusal f) (trailer_of f)
 
+-- M, N, K, Q and the format, or the refusal
 unfoldable pub table_read : List ℕ → List ℕ → Reply Sizes
 table_read f s = unless_refused (files_refusal f s) (sizes_in f s)
 
-pub record ArrayPromise (f : List ℕ) (x : ArrayAnswer) : Type 0 where
-  pub answers : says_array x ≡ array_read f
-  pub listed : (n p : ℕ) → says_array x ≡ refused n p → ArrayNumber n
+pub record ArrayPromise (f : List ℕ) (x : Result Trailer Refusal) : Type 0 where
+  pub answers : said x ≡ array_read f
+  pub listed : (n p : ℕ) → said x ≡ refused n p → ArrayNumber n
 
 -- ---- one order (02, request ii): "Two analysers write the same claims in different orders, and the archive stores both as different tables."
 
@@ -73,11 +61,11 @@ OneFile f s =
     (u : List ℕ) → All (λ b. b < 256) u → files_refusal f u ≡ clear → Alike (array_in f) (table_in f s) (table_in f u)
     → SameClaims (table_in f s) (table_in f u) → s ≡ u
 
-pub record TablePromise (f s : List ℕ) (x : TableAnswer) : Type 0 where
-  pub answers : says_table x ≡ table_read f s
-  pub order : (z : Sizes) → says_table x ≡ done z → OneOrder f s
-  pub file : (z : Sizes) → says_table x ≡ done z → OneFile f s
-  pub listed : (n p : ℕ) → says_table x ≡ refused n p → TableNumber n
+pub record TablePromise (f s : List ℕ) (x : Result Sizes Refusal) : Type 0 where
+  pub answers : said x ≡ table_read f s
+  pub order : (z : Sizes) → said x ≡ done z → OneOrder f s
+  pub file : (z : Sizes) → said x ≡ done z → OneFile f s
+  pub listed : (n p : ℕ) → said x ≡ refused n p → TableNumber n
 
 -- ---- the checker: an answer in 01's numbers
 
@@ -86,15 +74,19 @@ pub data Outcome : Type 0 where
   held : Sizes → Outcome
   rule : ℕ → List ℕ → Outcome
 
--- each case of the answer; "or `refused`, number, place"
-abbrev pub says : Verdict → Reply Outcome
-says (Held z) = done (held z)
-says (Rule1 o) = done (rule 1 (o ∷ []))
-says (Rule2 k) = done (rule 2 (k ∷ []))
-says (Rule3 p q n) = done (rule 3 (p ∷ q ∷ n ∷ []))
-says (Rule4 p q k) = done (rule 4 (p ∷ q ∷ k ∷ []))
-says (Rule5 c) = done (rule 5 (c ∷ []))
-says (Refused r) = refused r.number r.place
+-- each case of the verdict
+abbrev pub outcome_of : Verdict → Outcome
+outcome_of (Held z) = held z
+outcome_of (Rule1 o) = rule 1 (o ∷ [])
+outcome_of (Rule2 k) = rule 2 (k ∷ [])
+outcome_of (Rule3 p q n) = rule 3 (p ∷ q ∷ n ∷ [])
+outcome_of (Rule4 p q k) = rule 4 (p ∷ q ∷ k ∷ [])
+outcome_of (Rule5 c) = rule 5 (c ∷ [])
+
+-- "or `refused`, number, place"
+abbrev pub says : Result Verdict Refusal → Reply Outcome
+says (Ok v) = done (outcome_of v)
+says (Err r) = refused (number_of r.reason) r.place
 
 -- ---- what the answer must be: the first refusal of 1 to 21, 30 and 31, else the first broken rule and its place, else held
 
@@ -134,7 +126,7 @@ IsHeld (done (held z)) = Unit {0}
 IsHeld (done (rule r figures)) = ⊥
 IsHeld (refused n p) = ⊥
 
-pub record Judges (f s : List ℕ) (v : Verdict) : Type 0 where
+pub record Judges (f s : List ℕ) (v : Result Verdict Refusal) : Type 0 where
   pub answers : says v ≡ judged f s
   -- demand 2: a table that no refusal meets is accepted exactly when the five rules hold
   pub exactly : files_refusal f s ≡ clear → IsHeld (says v) ↔ Rules (array_in f) (table_in f s)

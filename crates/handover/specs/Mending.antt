@@ -1,22 +1,16 @@
 -- Mending (02, request iv): what the answer says, what it must say and leave in the output, and what that promises of the mended table.
-use Rattle.std.specs.Prelude.{ℕ, ◌≤◌, ◌≡◌, ◌↔◌, List, leb, length, take, drop}
+use Rattle.std.specs.Prelude.{ℕ, ◌≤◌, ◌≡◌, ◌↔◌, List, leb, length, take, drop, Result}
 use Rattle.laws.specs.Search.{Found, clear, hit, and_then}
 use Rattle.laws.specs.Lists.{put}
 use Rattle.model.specs.Formed as F
 use Rattle.model.specs.Formed.{refuse}
 use Rattle.model.specs.Rules.{Each, Rule2, Rule4, Rule5}
 use Rattle.model.specs.Mend.{Rows, mended, bits_set, Smallest}
+use Rattle.records.specs.declared.Refusal.{Refusal}
 use Rattle.flows.specs.Written.{rewritten}
 use Rattle.tables.specs.Read.{files_refusal}
-use Rattle.handover.specs.declared.MendAnswer.{MendAnswer}
-use Rattle.handover.specs.declared.MendAnswer.TheVariants.{Mended, Refused}
 use Rattle.handover.specs.Front.{array_in, sizes_in, table_in, judged, IsHeld}
-use Rattle.handover.specs.Refusals.{Reply, done, refused, unless_refused, MendNumber}
-
--- each case of the answer: "returns the number of bits set", or the refusal
-abbrev pub says_mend : MendAnswer → Reply ℕ
-says_mend (Mended n) = done n
-says_mend (Refused r) = refused r.number r.place
+use Rattle.handover.specs.Refusals.{Reply, done, refused, said, unless_refused, MendNumber}
 
 -- "32 when the lent output is shorter than the table, checked after 31."
 abbrev pub refusal32 : List ℕ → List ℕ → Found F.Refusal
@@ -33,7 +27,7 @@ mended_rows f s = mended (array_in f) (table_in f s)
 abbrev pub mended_table : List ℕ → List ℕ → List ℕ
 mended_table f s = rewritten (sizes_in f s) (mended_rows f s) s
 
--- ---- what the answer must be, and the output
+-- ---- what the answer must be, "the number of bits set" or the refusal, and the output
 
 unfoldable pub mend_reply : List ℕ → List ℕ → List ℕ → Reply ℕ
 mend_reply f s out = unless_refused (mend_refusal f s out) (bits_set (array_in f) (table_in f s).row (mended_rows f s))
@@ -70,12 +64,12 @@ pub record MendedTable (f s u : List ℕ) (n : ℕ) : Type 0 where
 
 -- ---- the whole promise of an answer x that finds the output `out` and leaves `left`
 
-pub record MendPromise (f s out : List ℕ) (x : MendAnswer) (left : List ℕ) : Type 0 where
-  pub answers : says_mend x ≡ mend_reply f s out
+pub record MendPromise (f s out : List ℕ) (x : Result ℕ Refusal) (left : List ℕ) : Type 0 where
+  pub answers : said x ≡ mend_reply f s out
   pub leaves : left ≡ mend_output f s out
-  pub mends : (n : ℕ) → says_mend x ≡ done n → MendedTable f s (take (length s) left) n
-  pub listed : (n p : ℕ) → says_mend x ≡ refused n p → MendNumber n
+  pub mends : (n : ℕ) → said x ≡ done n → MendedTable f s (take (length s) left) n
+  pub listed : (n p : ℕ) → said x ≡ refused n p → MendNumber n
   -- the output that 02 lends is lent memory: after a refusal, also 32, every byte is as it was
-  pub kept : (n p : ℕ) → says_mend x ≡ refused n p → left ≡ out
+  pub kept : (n p : ℕ) → said x ≡ refused n p → left ≡ out
   -- "Output bytes past the table keep their content." (02)
-  pub past : (n : ℕ) → says_mend x ≡ done n → (length left ≡ length out) × (drop (length s) left ≡ drop (length s) out)
+  pub past : (n : ℕ) → said x ≡ done n → (length left ≡ length out) × (drop (length s) left ≡ drop (length s) out)

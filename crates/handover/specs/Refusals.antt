@@ -1,14 +1,21 @@
 -- Answers in 01's numbers: what a call did, or its refusal; and the numbers that each entry may refuse by (01, "Refusals, in checking
 -- order"): "Table calls use 1 to 21, start 1 to 12, 22, 28, step 1 to 12 and 22 to 29, walk 1 to 12, 22, 23." Table calls use 30 and 31
 -- too (02, requests i and ii), and mending 32 (request iv). The walk told step by step refuses as the walk does.
-use Rattle.std.specs.Prelude.{ℕ, ◌≤◌, ◌≡◌, ◌⊎◌}
+use Rattle.std.specs.Prelude.{ℕ, ◌≤◌, ◌≡◌, ◌⊎◌, Result, Ok, Err}
 use Rattle.laws.specs.Search.{Found, clear, hit}
 use Rattle.model.specs.Formed as F
+use Rattle.records.specs.declared.Refusal.{Refusal}
+use Rattle.records.specs.Record.{number_of}
 
 -- what a call did, or "its number and a place (0 where none is named)"
 pub data Reply (A : Type 0) : Type 0 where
   done : A → Reply A
   refused : ℕ → ℕ → Reply A
+
+-- each case of an answer: what the call did, or the refusal
+abbrev pub said : {A : Type 0} → Result A Refusal → Reply A
+said (Ok x) = done x
+said (Err r) = refused (number_of r.reason) r.place
 
 -- the first refusal, else what the call did
 abbrev pub unless_refused : {A : Type 0} → Found F.Refusal → A → Reply A

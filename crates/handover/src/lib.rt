@@ -22,28 +22,25 @@
 // choice on the deepest path of one unfolding, at most 640.
 #![tactic(auto)]
 
-ghost use Rattle.std.specs.Prelude.{◌≡◌, [], ◌-◌};
+ghost use Rattle.std.specs.Prelude.{◌≡◌, [], ◌-◌, MatchResult};
 ghost use Rattle.model.specs.Memory.{memory};
-ghost use Rattle.laws.specs.Search.{clear};
-ghost use Rattle.arrays.specs.declared.ArrayAnswer.TheVariants.{Read};
-ghost use Rattle.arrays.specs.File.{remark_of, trailer_of, trailer_answer, read_array};
-ghost use Rattle.tables.specs.Read.{table_refusal};
+ghost use Rattle.laws.specs.Search.{hit};
+ghost use Rattle.records.specs.Record.{told};
+ghost use Rattle.arrays.specs.File.{remark_of};
 ghost use Rattle.handover.specs.Front.{ArrayPromise, TablePromise, Judges};
 ghost use Rattle.handover.specs.Mending.{MendPromise};
 ghost use Rattle.handover.specs.Engine.{start_refusal, StartPromise, StepPromise, WalkPromise, StridePromise};
-ghost use Rattle.handover.specs.Bodies.{verdict_of, stride_answer};
+ghost use Rattle.handover.specs.Bodies.{verdict_of, told_of, Admitted};
 
-use arrays::ArrayAnswer;
-use engine::{Allowance, Stride, Strode, Turn, Walk, Walked};
-use layout::Sizes;
+use engine::{Allowance, Stride, Turn, Walk};
+use layout::{Sizes, TableFile};
 use lent::Counts;
 use model::Ending;
-use records::{Check, Refusal, Trailer};
-use rules::Ruling;
-use steps::Fired;
-use tables::TableAnswer;
+use records::{ArrayFile, Reason, Refusal, Trailer};
+use rules::Broken;
+use std::fmt;
 
-// Held with M, N, K, Q and the format, the first broken rule with its place figures, or the first refusal with its place.
+// Held with M, N, K, Q and the format, or the first broken rule with its place figures.
 #[derive(Clone, Copy)]
 pub enum Verdict {
     Held(Sizes),
@@ -52,47 +49,37 @@ pub enum Verdict {
     Rule3(usize, usize, usize),
     Rule4(usize, usize, usize),
     Rule5(usize),
-    Refused(Refusal),
 }
 
-// The number of bits set, or the first refusal with its place.
-#[derive(Clone, Copy)]
-pub enum MendAnswer {
-    Mended(usize),
-    Refused(Refusal),
+// As `judge` prints it.
+impl fmt::Display for Verdict {
+    fn fmt<W: fmt::Write>(&self, f: &mut fmt::Formatter<W>) -> fmt::Result {
+        match self {
+            Verdict::Held(z) => {
+                write!(
+                    f,
+                    "held {} {} {} {}",
+                    z.nodes, z.names, z.balances, z.claims
+                )
+            }
+            Verdict::Rule1(o) => write!(f, "rule 1 {o}"),
+            Verdict::Rule2(k) => write!(f, "rule 2 {k}"),
+            Verdict::Rule3(p, q, n) => write!(f, "rule 3 {p} {q} {n}"),
+            Verdict::Rule4(p, q, k) => write!(f, "rule 4 {p} {q} {k}"),
+            Verdict::Rule5(c) => write!(f, "rule 5 {c}"),
+        }
+    }
 }
 
-// The thread count after a start, or the first refusal with its place.
+// One step of a walk as it is told, or its ending with the steps made.
 #[derive(Clone, Copy)]
-pub enum StartAnswer {
-    Started(usize),
-    Refused(Refusal),
-}
-
-// The thread count and the marker count after a step, or the first refusal with its place.
-#[derive(Clone, Copy)]
-pub enum StepAnswer {
-    Stepped(Counts),
-    Refused(Refusal),
-}
-
-// How a walk ended, the steps made and the counts, or the first refusal with its place.
-#[derive(Clone, Copy)]
-pub enum WalkAnswer {
-    Walked(Walk),
-    Refused(Refusal),
-}
-
-// One step of a walk, its ending with the steps made, or the first refusal with its place.
-#[derive(Clone, Copy)]
-pub enum StrideAnswer {
+pub enum Told {
     Made(Turn),
     Ended(Ending, u32),
-    Refused(Refusal),
 }
 
 // Reads an array file.
-pub fn read_array(file: &[u8]) -> ArrayAnswer
+pub fn read_array(file: &[u8]) -> Result<Trailer, Refusal>
     ensures { ArrayPromise file.now result }
 {
     arrays::read_array(file)
@@ -106,104 +93,77 @@ pub fn remark(file: &[u8]) -> &[u8]
 }
 
 // Reads a table file beside its array file.
-pub fn read_table(array: &[u8], table: &[u8]) -> TableAnswer
+pub fn read_table(array: &[u8], table: &[u8]) -> Result<Sizes, Refusal>
     ensures { TablePromise array.now table.now result }
 {
     tables::read_table(array, table)
 }
 
-// The verdict that a ruling is, of a table with these sizes.
-fn verdict_of(r: Ruling, z: Sizes) -> Verdict
-    ensures { result ≡ verdict_of r z }
+// The verdict that a ruling is, of a table with these sizes, which held alone takes.
+fn verdict_of(ruling: Result<(), Broken>, z: Sizes) -> Verdict
+    ensures { result ≡ verdict_of ruling z }
 {
-    match r {
-        Ruling::Held => Verdict::Held(z),
-        Ruling::Rule1(o) => Verdict::Rule1(o),
-        Ruling::Rule2(k) => Verdict::Rule2(k),
-        Ruling::Rule3(p, q, n) => Verdict::Rule3(p, q, n),
-        Ruling::Rule4(p, q, k) => Verdict::Rule4(p, q, k),
-        Ruling::Rule5(c) => Verdict::Rule5(c),
+    match ruling {
+        Ok(()) => Verdict::Held(z),
+        Err(Broken::Rule1(o)) => Verdict::Rule1(o),
+        Err(Broken::Rule2(k)) => Verdict::Rule2(k),
+        Err(Broken::Rule3(p, q, n)) => Verdict::Rule3(p, q, n),
+        Err(Broken::Rule4(p, q, k)) => Verdict::Rule4(p, q, k),
+        Err(Broken::Rule5(c)) => Verdict::Rule5(c),
     }
 }
 
 // Judges a table against its array.
-pub fn check(array: &[u8], table: &[u8]) -> Verdict
+pub fn check(array: &[u8], table: &[u8]) -> Result<Verdict, Refusal>
     ensures { Judges array.now table.now result }
 {
-    match arrays::read_array(array) {
-        ArrayAnswer::Refused(r) => Verdict::Refused(r),
-        ArrayAnswer::Read(t) => match tables::check_table(array, t, table) {
-            Check::Refused(r) => Verdict::Refused(r),
-            Check::Passed => {
-                let z = layout::read_sizes(t, table);
-                verdict_of(rules::judge(array, t, table, z), z)
-            }
-        },
-    }
-}
-
-// Mends a table that was read beside its array, or refusal 32.
-fn mend_read(array: &[u8], t: Trailer, table: &[u8], output: &mut [u8]) -> MendAnswer
-    requires { (read_array array.now ≡ Read t) × (table_refusal array.now t table.now ≡ clear) }
-    ensures { MendPromise array.now table.now output.old result output.new }
-{
-    if output.len() < table.len() {
-        return MendAnswer::Refused(numbered(32));
-    }
-    let z = layout::read_sizes(t, table);
-    MendAnswer::Mended(mending::mend_table(output, array, t, table, z))
+    let array = arrays::open(array)?;
+    tables::check_table(&array, table)?;
+    let z = layout::read_sizes(array.trailer, table);
+    let read = TableFile {
+        bytes: table,
+        sizes: z,
+    };
+    Ok(verdict_of(rules::judge(&array, &read), z))
 }
 
 // Sets the bits that rules 1 and 3 ask for, and writes the mended table. A refusal changes no byte.
-pub fn mend(array: &[u8], table: &[u8], output: &mut [u8]) -> MendAnswer
+pub fn mend(array: &[u8], table: &[u8], output: &mut [u8]) -> Result<usize, Refusal>
     ensures { MendPromise array.now table.now output.old result output.new }
 {
-    match arrays::read_array(array) {
-        ArrayAnswer::Refused(r) => MendAnswer::Refused(r),
-        ArrayAnswer::Read(t) => match tables::check_table(array, t, table) {
-            Check::Refused(r) => MendAnswer::Refused(r),
-            Check::Passed => mend_read(array, t, table, output),
-        },
+    let file = arrays::open(array)?;
+    tables::check_table(&file, table)?;
+    if output.len() < table.len() {
+        return Err(Reason::Output.into());
     }
+    let z = layout::read_sizes(file.trailer, table);
+    let read = TableFile {
+        bytes: table,
+        sizes: z,
+    };
+    Ok(mending::mend_table(output, &file, &read))
 }
 
-// A refusal that names no place.
-fn numbered(number: u8) -> Refusal
-    ensures { result ≡ record { number = number; place = 0 } }
+// An array file that was read beside 128 choice bytes, or refusals 1 to 12 and 22.
+fn admit<'a>(array: &'a [u8], choices: &[u8]) -> Result<ArrayFile<'a>, Refusal>
+    ensures { MatchResult result
+        (λ file. Admitted array.now choices.now file.bytes.now file.trailer)
+        (λ refusal. start_refusal array.now choices.now ≡ hit (told refusal)) }
 {
-    Refusal { number, place: 0 }
-}
-
-// What the array's trailer says, or refusals 1 to 12 and 22.
-fn admit(array: &[u8], choices: &[u8]) -> ArrayAnswer
-    ensures { result ≡ trailer_answer (start_refusal array.now choices.now) (trailer_of array.now) }
-{
-    match arrays::read_array(array) {
-        ArrayAnswer::Refused(r) => ArrayAnswer::Refused(r),
-        ArrayAnswer::Read(t) => {
-            if choices.len() != 128 {
-                return ArrayAnswer::Refused(numbered(22));
-            }
-            ArrayAnswer::Read(t)
-        }
+    let file = arrays::open(array)?;
+    if choices.len() != 128 {
+        return Err(Reason::Choices.into());
     }
+    Ok(file)
 }
 
 // Writes the start into the thread list. A refusal changes no word.
-pub fn start(array: &[u8], choices: &[u8], threads: &mut [u32]) -> StartAnswer
+pub fn start(array: &[u8], choices: &[u8], threads: &mut [u32]) -> Result<usize, Refusal>
     ensures { StartPromise array.now choices.now (memory threads.old 0 [] 0) result threads.new }
 {
-    let admitted = admit(array, choices);
-    match admitted {
-        ArrayAnswer::Refused(r) => StartAnswer::Refused(r),
-        ArrayAnswer::Read(t) => {
-            let fired = engine::start(array, t, choices, threads);
-            match fired {
-                Fired::Stopped(number) => StartAnswer::Refused(numbered(number)),
-                Fired::Made(counts, _marker) => StartAnswer::Started(counts.threads),
-            }
-        }
-    }
+    let file = admit(array, choices)?;
+    let started = engine::start(&file, choices, threads)?;
+    Ok(started.counts.threads)
 }
 
 // Makes one step on the lists. A refusal changes no word.
@@ -215,24 +175,14 @@ pub fn step(
     counts: Counts,
     receiver: usize,
     sender: usize,
-) -> StepAnswer
+) -> Result<Counts, Refusal>
     ensures { StepPromise array.now choices.now
         (memory threads.old counts.threads markers.old counts.markers)
         receiver sender result threads.new markers.new }
 {
-    let admitted = admit(array, choices);
-    match admitted {
-        ArrayAnswer::Refused(r) => StepAnswer::Refused(r),
-        ArrayAnswer::Read(t) => {
-            let fired = engine::step(
-                array, t, choices, threads, markers, counts, receiver, sender,
-            );
-            match fired {
-                Fired::Stopped(number) => StepAnswer::Refused(numbered(number)),
-                Fired::Made(made, _marker) => StepAnswer::Stepped(made),
-            }
-        }
-    }
+    let file = admit(array, choices)?;
+    let made = engine::step(&file, choices, threads, markers, counts, receiver, sender)?;
+    Ok(made.counts)
 }
 
 // Walks from ready pair to ready pair, at most `allowed` steps. A refusal changes no word.
@@ -243,31 +193,23 @@ pub fn walk(
     markers: &mut [u16],
     counts: Counts,
     allowed: u32,
-) -> WalkAnswer
+) -> Result<Walk, Refusal>
     ensures { WalkPromise array.now choices.now
         (memory threads.old counts.threads markers.old counts.markers)
         allowed result threads.new markers.new }
 {
-    let admitted = admit(array, choices);
-    match admitted {
-        ArrayAnswer::Refused(r) => WalkAnswer::Refused(r),
-        ArrayAnswer::Read(t) => {
-            let walked = engine::walk_lists(array, t, choices, threads, markers, counts, allowed);
-            match walked {
-                Walked::Refused(number) => WalkAnswer::Refused(numbered(number)),
-                Walked::Walked(w) => WalkAnswer::Walked(w),
-            }
-        }
-    }
+    let file = admit(array, choices)?;
+    let walked = engine::walk_lists(&file, choices, threads, markers, counts, allowed)?;
+    Ok(walked)
 }
 
-// The answer that a turn of the walk is.
-fn stride_of(s: Stride, allowance: Allowance) -> StrideAnswer
-    ensures { result ≡ stride_answer s (allowance.allowed - allowance.left) }
+// What is told of a turn of the walk.
+fn told_of(stride: Stride, allowance: Allowance) -> Told
+    ensures { result ≡ told_of stride (allowance.allowed - allowance.left) }
 {
-    match s {
-        Stride::Ended(e) => StrideAnswer::Ended(e, allowance.made()),
-        Stride::Made(t) => StrideAnswer::Made(t),
+    match stride {
+        Stride::Ended(e) => Told::Ended(e, allowance.made()),
+        Stride::Made(t) => Told::Made(t),
     }
 }
 
@@ -279,20 +221,12 @@ pub fn stride(
     markers: &mut [u16],
     counts: Counts,
     allowance: Allowance,
-) -> StrideAnswer
+) -> Result<Told, Refusal>
     ensures { StridePromise array.now choices.now
         (memory threads.old counts.threads markers.old counts.markers)
         allowance result threads.new markers.new }
 {
-    let admitted = admit(array, choices);
-    match admitted {
-        ArrayAnswer::Refused(r) => StrideAnswer::Refused(r),
-        ArrayAnswer::Read(t) => {
-            let strode = engine::next_turn(array, t, choices, threads, markers, counts, allowance);
-            match strode {
-                Strode::Refused(number) => StrideAnswer::Refused(numbered(number)),
-                Strode::Strode(s) => stride_of(s, allowance),
-            }
-        }
-    }
+    let file = admit(array, choices)?;
+    let strode = engine::next_turn(&file, choices, threads, markers, counts, allowance)?;
+    Ok(told_of(strode, allowance))
 }

@@ -7,6 +7,7 @@ use mathlib.Core.Bool.{Bool, true, false, not, ◌&&◌}
 use mathlib.Core.List.{List}
 use lib.Dec.{leb}
 use lib.ListN.{length}
+use Rattle.std.specs.Prelude as P
 use Rattle.laws.specs.Search.{Found, clear, hit, test, and_then, sum}
 use Rattle.laws.specs.Lists.{one}
 use Rattle.laws.proofs.Search.{and_then-split, sum_bound}
@@ -15,12 +16,12 @@ use Rattle.model.specs.Tree.{Array}
 use Rattle.model.specs.Formed as F
 use Rattle.model.specs.Rules.{row_bits}
 use Rattle.model.specs.Mend.{Rows, bits_set}
+use Rattle.records.specs.declared.Refusal.{Refusal}
 use Rattle.arrays.specs.File.{array_refusal}
 use Rattle.tables.specs.Read.{files_refusal}
-use Rattle.handover.specs.declared.MendAnswer.{MendAnswer}
 use Rattle.handover.specs.Front.{array_in, table_in}
-use Rattle.handover.specs.Mending.{says_mend, mended_rows, mend_reply, MendPromise}
-use Rattle.handover.specs.Refusals.{unless_refused, MendNumber}
+use Rattle.handover.specs.Mending.{mended_rows, mend_reply, MendPromise}
+use Rattle.handover.specs.Refusals.{said, unless_refused, MendNumber}
 use Rattle.handover.proofs.Refusals.{read-array, files-small}
 use Rattle.handover_c.specs.Packed.{packed_reply, packed_mend, FitsReply, FitsMend, MendsInC}
 
@@ -44,9 +45,9 @@ module _ (f s out : List ℕ) where
           bits-few (array_in f) (table_in f s).row (mended_rows f s) (read-array f (and_then-split (array_refusal f) _ e).0).formed.few_names
       go clear e false = (inr refl, omega arith)
 
-  module _ (x : MendAnswer) (left : List ℕ) (p : MendPromise f s out x left) where
-    pub mend-answer : FitsReply FitsMend MendNumber (says_mend x)
+  module _ (x : P.Result ℕ Refusal) (left : List ℕ) (p : MendPromise f s out x left) where
+    pub mend-answer : FitsReply FitsMend MendNumber (said x)
     mend-answer = subst (FitsReply FitsMend MendNumber) (sym p.answers) mend-fits
 
-    pub mends : (r : ℕ) → r ≡ packed_reply packed_mend (says_mend x) → MendsInC f s out r left
+    pub mends : (r : ℕ) → r ≡ packed_reply packed_mend (said x) → MendsInC f s out r left
     mends r e = record { returns = e ∙ ap (packed_reply packed_mend) p.answers; fits = mend-fits; leaves = p.leaves; promise = (x, p) }

@@ -4,6 +4,7 @@ use native.Mathlib.Omega.{arith}
 use mathlib.Core.Path.{◌≡◌, refl, sym, ap, ◌∙◌, subst}
 use mathlib.Core.Bool.{true, false, true≢false}
 use mathlib.Core.List.{List, []}
+use Rattle.std.specs.Prelude as P
 use Rattle.laws.specs.Search.{Found, clear, hit}
 use Rattle.model.specs.Tree.{Array}
 use Rattle.model.specs.Formed as F
@@ -15,17 +16,15 @@ use Rattle.model.specs.Memory.{store, fitted, on_answer, first_ready, on_pair, o
 use Rattle.model.specs.declared.Ending.TheVariants.{Quiet, Spent, Full}
 use Rattle.model.proofs.Lent.{formed-sound}
 use Rattle.model.proofs.Engine.{Fate, crowded, unlisted, stored, fitted-fate}
+use Rattle.records.specs.declared.Refusal.{Refusal}
 use Rattle.lent.specs.declared.Counts.{Counts}
 use Rattle.engine.specs.declared.Walk.{Walk}
-use Rattle.handover.specs.declared.StartAnswer.{StartAnswer}
-use Rattle.handover.specs.declared.StepAnswer.{StepAnswer}
-use Rattle.handover.specs.declared.WalkAnswer.{WalkAnswer}
 use Rattle.handover.specs.Front.{array_in}
 use Rattle.handover.specs.Engine.{Left, left, left_unless, result_left, counts_in, start_refusal, lent_refusal, start_of, step_of, walk_of}
-use Rattle.handover.specs.Engine.{says_start, says_step, says_walk, StartPromise, StepPromise, WalkPromise}
+use Rattle.handover.specs.Engine.{StartPromise, StepPromise, WalkPromise}
 use Rattle.handover_c.specs.Packed.{packed_reply, packed_start, packed_step, packed_walk, FitsCounts, FitsReply, FitsStart, FitsStep, FitsWalk}
 use Rattle.handover_c.specs.Packed.{Leaves, StartsInC, StepsInC, WalksInC}
-use Rattle.handover.specs.Refusals.{Reply, StartNumber, StepNumber, WalkNumber}
+use Rattle.handover.specs.Refusals.{Reply, said, StartNumber, StepNumber, WalkNumber}
 use Rattle.handover.proofs.Refusals.{Small, start_small, lent-step, lent-walk, leave-stop, start-number, step-number}
 
 -- ---- what the engine finds
@@ -110,7 +109,7 @@ module _ (f choices : List ℕ) (m : Memory) where
       result_fits FitsStep StepNumber counts_in (λ n h. h) m (step_in (array_in f) m u) (step_fits (array_in f) m u)
 
   -- the counts of a walk are those of lists that are well formed
-  walk-of : (allowed : ℕ) → allowed < 2 ^ 32 → (x : WalkAnswer) (l ml : List ℕ) → WalkPromise f choices m allowed x l ml
+  walk-of : (allowed : ℕ) → allowed < 2 ^ 32 → (x : P.Result Walk Refusal) (l ml : List ℕ) → WalkPromise f choices m allowed x l ml
       → FitsReply FitsWalk WalkNumber (walk_of f choices m allowed).reply
   unfolding walk_of
   walk-of allowed small x l ml p = unrefused FitsWalk WalkNumber (lent_refusal f choices m) m _ (lent-walk f choices m) λ c.
@@ -130,25 +129,25 @@ module _ {A : Type 0} (Q : A → Type 0) (P : ℕ → Type 0) (f : A → ℕ) wh
   }
 
 module _ (f choices : List ℕ) (m : Memory) where
-  module _ (x : StartAnswer) (l : List ℕ) (p : StartPromise f choices m x l) where
-    pub start-answer : FitsReply FitsStart StartNumber (says_start x)
+  module _ (x : P.Result ℕ Refusal) (l : List ℕ) (p : StartPromise f choices m x l) where
+    pub start-answer : FitsReply FitsStart StartNumber (said x)
     start-answer = subst (λ (o : Left ℕ). FitsReply FitsStart StartNumber o.reply) (sym p.leaves) (start-of f choices m)
 
-    pub starts : (r : ℕ) → r ≡ packed_reply packed_start (says_start x) → StartsInC f choices m r l
+    pub starts : (r : ℕ) → r ≡ packed_reply packed_start (said x) → StartsInC f choices m r l
     starts r e = record { leaves = leaves_by FitsStart StartNumber packed_start _ _ r l [] p.leaves (start-of f choices m) e; promise = (x, p) }
 
-  module _ (i j : ℕ) (x : StepAnswer) (l ml : List ℕ) (p : StepPromise f choices m i j x l ml) where
-    pub step-answer : FitsReply FitsStep StepNumber (says_step x)
+  module _ (i j : ℕ) (x : P.Result Counts Refusal) (l ml : List ℕ) (p : StepPromise f choices m i j x l ml) where
+    pub step-answer : FitsReply FitsStep StepNumber (said x)
     step-answer = subst (λ (o : Left Counts). FitsReply FitsStep StepNumber o.reply) (sym p.leaves) (step-of f choices m i j)
 
-    pub steps : (r : ℕ) → r ≡ packed_reply packed_step (says_step x) → StepsInC f choices m i j r l ml
+    pub steps : (r : ℕ) → r ≡ packed_reply packed_step (said x) → StepsInC f choices m i j r l ml
     steps r e = record { leaves = leaves_by FitsStep StepNumber packed_step _ _ r l ml p.leaves (step-of f choices m i j) e; promise = (x, p) }
 
-  module _ (allowed : ℕ) (small : allowed < 2 ^ 32) (x : WalkAnswer) (l ml : List ℕ) (p : WalkPromise f choices m allowed x l ml) where
-    pub walk-answer : FitsReply FitsWalk WalkNumber (says_walk x)
+  module _ (allowed : ℕ) (small : allowed < 2 ^ 32) (x : P.Result Walk Refusal) (l ml : List ℕ) (p : WalkPromise f choices m allowed x l ml) where
+    pub walk-answer : FitsReply FitsWalk WalkNumber (said x)
     walk-answer = subst (λ (o : Left Walk). FitsReply FitsWalk WalkNumber o.reply) (sym p.leaves) (walk-of f choices m allowed small x l ml p)
 
-    pub walks : (r : ℕ) → r ≡ packed_reply packed_walk (says_walk x) → WalksInC f choices m allowed r l ml
+    pub walks : (r : ℕ) → r ≡ packed_reply packed_walk (said x) → WalksInC f choices m allowed r l ml
     walks r e = record {
       leaves = leaves_by FitsWalk WalkNumber packed_walk _ _ r l ml p.leaves (walk-of f choices m allowed small x l ml p) e;
       promise = (x, p);

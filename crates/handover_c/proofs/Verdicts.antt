@@ -7,6 +7,7 @@ use mathlib.Core.Bool.{true, false}
 use mathlib.Core.List.{List}
 use mathlib.Core.Option.{Option, none, some}
 use lib.ListN.{length}
+use Rattle.std.specs.Prelude.{Result}
 use Rattle.laws.specs.Search.{Found, clear, hit}
 use Rattle.laws.proofs.Search.{decided, and_then-split}
 use Rattle.model.specs.Tree.{Agent, agent_at, is_agent}
@@ -23,6 +24,7 @@ use Rattle.layout.specs.declared.Sizes.{Sizes}
 use Rattle.layout.specs.Table.{table_of}
 use Rattle.tables.specs.Read.{files_refusal}
 use Rattle.tables.proofs.Laws.{passed-table}
+use Rattle.records.specs.declared.Refusal.{Refusal}
 use Rattle.handover.specs.declared.Verdict.{Verdict}
 use Rattle.handover.specs.Front.{Outcome, held, rule, says, IsHeld, array_in, sizes_in, table_in, judged, after_rules, Judges}
 use Rattle.handover.specs.Refusals.{Reply, done, refused, unless_refused, TableNumber}
@@ -81,10 +83,10 @@ held-zero (done (held z)) h e = tt
 held-zero (done (rule r figures)) h e = absurd (omega (arith, h.0, e))
 held-zero (refused n p) h e = absurd (omega (arith, e))
 
-pub verdict-fits : (f s : List ℕ) (v : Verdict) → Judges f s v → FitsReply FitsOutcome TableNumber (says v)
+pub verdict-fits : (f s : List ℕ) (v : Result Verdict Refusal) → Judges f s v → FitsReply FitsOutcome TableNumber (says v)
 verdict-fits f s v j = subst (FitsReply FitsOutcome TableNumber) (sym j.answers) (judged-fits f s)
 
-pub checks : (f s : List ℕ) (v : Verdict) → Judges f s v → (r : ℕ) → r ≡ packed_reply packed_outcome (says v) → ChecksInC f s r
+pub checks : (f s : List ℕ) (v : Result Verdict Refusal) → Judges f s v → (r : ℕ) → r ≡ packed_reply packed_outcome (says v) → ChecksInC f s r
 checks f s v j r e =
     let held : r ≡ 0 → IsHeld (says v) = λ z. held-zero (says v) (verdict-fits f s v j) (sym e ∙ z) in
     record {

@@ -1,15 +1,12 @@
 -- The answers as one number of 64 bits, and what each entry for C promises.
-use Rattle.std.specs.Prelude.{ℕ, ◌+◌, ◌*◌, ◌^◌, ◌≤◌, ◌<◌, ◌≡◌, List, [], get_or}
+use Rattle.std.specs.Prelude.{ℕ, ◌+◌, ◌*◌, ◌^◌, ◌≤◌, ◌<◌, ◌≡◌, List, [], get_or, Result}
 use Rattle.model.specs.declared.Ending.{Ending}
 use Rattle.model.specs.declared.Ending.TheVariants.{Quiet, Spent, Full}
 use Rattle.model.specs.Memory.{Memory}
+use Rattle.records.specs.declared.Refusal.{Refusal}
 use Rattle.lent.specs.declared.Counts.{Counts}
 use Rattle.engine.specs.declared.Walk.{Walk}
-use Rattle.handover.specs.declared.MendAnswer.{MendAnswer}
-use Rattle.handover.specs.declared.StartAnswer.{StartAnswer}
-use Rattle.handover.specs.declared.StepAnswer.{StepAnswer}
 use Rattle.handover.specs.declared.Verdict.{Verdict}
-use Rattle.handover.specs.declared.WalkAnswer.{WalkAnswer}
 use Rattle.handover.specs.Front.{Outcome, held, rule, judged, Judges, Demand3, SetsBounded}
 use Rattle.handover.specs.Refusals.{Reply, done, refused, TableNumber, MendNumber, StartNumber, StepNumber, WalkNumber}
 use Rattle.handover.specs.Mending.{mend_reply, mend_output, MendPromise}
@@ -98,7 +95,7 @@ pub record ChecksInC (f s : List ℕ) (r : ℕ) : Type 0 where
   pub returns : r ≡ packed_reply packed_outcome (judged f s)
   pub fits : FitsReply FitsOutcome TableNumber (judged f s)
   -- it is the number of an answer that has the whole promise of the checker's entry
-  pub judges : (v : Verdict) × Judges f s v
+  pub judges : (v : Result Verdict Refusal) × Judges f s v
   -- demand 3, and 02's sentence on sets (request i)
   pub holds : r ≡ 0 → Demand3 f s
   pub bounds : r ≡ 0 → SetsBounded f s
@@ -108,7 +105,7 @@ pub record MendsInC (f s out : List ℕ) (r : ℕ) (left : List ℕ) : Type 0 wh
   pub returns : r ≡ packed_reply packed_mend (mend_reply f s out)
   pub fits : FitsReply FitsMend MendNumber (mend_reply f s out)
   pub leaves : left ≡ mend_output f s out
-  pub promise : (x : MendAnswer) × MendPromise f s out x left
+  pub promise : (x : Result ℕ Refusal) × MendPromise f s out x left
 
 -- the number, and every word of both lists
 pub record Leaves {A : Type 0} (Q : A → Type 0) (P : ℕ → Type 0) (f : A → ℕ) (o : Left A) (r : ℕ) (l ml : List ℕ) : Type 0 where
@@ -119,12 +116,12 @@ pub record Leaves {A : Type 0} (Q : A → Type 0) (P : ℕ → Type 0) (f : A �
 
 pub record StartsInC (f choices : List ℕ) (m : Memory) (r : ℕ) (l : List ℕ) : Type 0 where
   pub leaves : Leaves FitsStart StartNumber packed_start (start_of f choices m) r l []
-  pub promise : (x : StartAnswer) × StartPromise f choices m x l
+  pub promise : (x : Result ℕ Refusal) × StartPromise f choices m x l
 
 pub record StepsInC (f choices : List ℕ) (m : Memory) (receiver sender r : ℕ) (l ml : List ℕ) : Type 0 where
   pub leaves : Leaves FitsStep StepNumber packed_step (step_of f choices m receiver sender) r l ml
-  pub promise : (x : StepAnswer) × StepPromise f choices m receiver sender x l ml
+  pub promise : (x : Result Counts Refusal) × StepPromise f choices m receiver sender x l ml
 
 pub record WalksInC (f choices : List ℕ) (m : Memory) (allowed r : ℕ) (l ml : List ℕ) : Type 0 where
   pub leaves : Leaves FitsWalk WalkNumber packed_walk (walk_of f choices m allowed) r l ml
-  pub promise : (x : WalkAnswer) × WalkPromise f choices m allowed x l ml
+  pub promise : (x : Result Walk Refusal) × WalkPromise f choices m allowed x l ml

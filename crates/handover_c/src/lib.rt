@@ -5,17 +5,17 @@
 #![tactic(auto)]
 
 ghost use Rattle.std.specs.Prelude.{◌+◌, ◌*◌, ◌^◌, ◌≤◌, ◌<◌, ◌≡◌, [], length};
+ghost use Rattle.records.specs.Record.{number_of};
 ghost use Rattle.arrays.specs.File.{remark_of};
 ghost use Rattle.model.specs.Memory.{memory};
-ghost use Rattle.handover.specs.Front.{says};
-ghost use Rattle.handover.specs.Refusals.{TableNumber, MendNumber, StartNumber, StepNumber, WalkNumber};
-ghost use Rattle.handover.specs.Mending.{says_mend};
-ghost use Rattle.handover.specs.Engine.{says_start, says_step, says_walk};
+ghost use Rattle.handover.specs.Front.{outcome_of, says};
+ghost use Rattle.handover.specs.Refusals.{said, TableNumber, MendNumber, StartNumber, StepNumber, WalkNumber};
 ghost use Rattle.handover_c.specs.Packed.{packed_reply, packed_outcome, packed_mend, packed_start, packed_step, packed_walk, denied, counted, ending};
 ghost use Rattle.handover_c.specs.Packed.{FitsReply, FitsOutcome, FitsMend, FitsCounts, FitsStart, FitsStep, FitsWalk};
 ghost use Rattle.handover_c.specs.Packed.{ChecksInC, MendsInC, StartsInC, StepsInC, WalksInC};
 
-use handover::{MendAnswer, StartAnswer, StepAnswer, Verdict, WalkAnswer};
+use engine::Walk;
+use handover::Verdict;
 use lent::Counts;
 use model::Ending;
 use records::Refusal;
@@ -30,10 +30,10 @@ fn pack_rule(number: u64, first: usize, second: usize, third: usize) -> u64
 
 // A refusal's number with its place.
 fn pack_refusal(r: Refusal) -> u64
-    requires { (r.number ≤ 39) × (r.place < 2 ^ 16) }
-    ensures { result ≡ denied r.number r.place }
+    requires { r.place < 2 ^ 16 }
+    ensures { result ≡ denied (number_of r.reason) r.place }
 {
-    100 + r.number as u64 + 256 * r.place as u64
+    100 + u64::from(r.reason.number()) + 256 * r.place as u64
 }
 
 // A code with the counts and the steps made.
@@ -57,8 +57,8 @@ fn ending_code(e: Ending) -> u64
 
 // A verdict's number.
 fn pack_verdict(v: Verdict) -> u64
-    requires { FitsReply FitsOutcome TableNumber (says v) }
-    ensures { result ≡ packed_reply packed_outcome (says v) }
+    requires { FitsOutcome (outcome_of v) }
+    ensures { result ≡ packed_outcome (outcome_of v) }
 {
     match v {
         Verdict::Held(_z) => 0,
@@ -67,28 +67,38 @@ fn pack_verdict(v: Verdict) -> u64
         Verdict::Rule3(p, q, n) => pack_rule(3, p, q, n),
         Verdict::Rule4(p, q, k) => pack_rule(4, p, q, k),
         Verdict::Rule5(c) => pack_rule(5, c, 0, 0),
-        Verdict::Refused(r) => pack_refusal(r),
+    }
+}
+
+// The numbers of the answers, one function for each, since each has a definition of its own (specs/Packed). The checker's.
+fn pack_check(x: Result<Verdict, Refusal>) -> u64
+    requires { FitsReply FitsOutcome TableNumber (says x) }
+    ensures { result ≡ packed_reply packed_outcome (says x) }
+{
+    match x {
+        Ok(v) => pack_verdict(v),
+        Err(r) => pack_refusal(r),
     }
 }
 
 // The number of a mending's answer.
-fn pack_mend(x: MendAnswer) -> u64
-    requires { FitsReply FitsMend MendNumber (says_mend x) }
-    ensures { result ≡ packed_reply packed_mend (says_mend x) }
+fn pack_mend(x: Result<usize, Refusal>) -> u64
+    requires { FitsReply FitsMend MendNumber (said x) }
+    ensures { result ≡ packed_reply packed_mend (said x) }
 {
     match x {
-        MendAnswer::Mended(bits) => 256 * bits as u64,
-        MendAnswer::Refused(r) => pack_refusal(r),
+        Ok(bits) => 256 * bits as u64,
+        Err(r) => pack_refusal(r),
     }
 }
 
 // The number of a start's answer.
-fn pack_start(x: StartAnswer) -> u64
-    requires { FitsReply FitsStart StartNumber (says_start x) }
-    ensures { result ≡ packed_reply packed_start (says_start x) }
+fn pack_start(x: Result<usize, Refusal>) -> u64
+    requires { FitsReply FitsStart StartNumber (said x) }
+    ensures { result ≡ packed_reply packed_start (said x) }
 {
     match x {
-        StartAnswer::Started(threads) => pack_counts(
+        Ok(threads) => pack_counts(
             0,
             Counts {
                 threads,
@@ -96,32 +106,32 @@ fn pack_start(x: StartAnswer) -> u64
             },
             0,
         ),
-        StartAnswer::Refused(r) => pack_refusal(r),
+        Err(r) => pack_refusal(r),
     }
 }
 
 // The number of a step's answer.
-fn pack_step(x: StepAnswer) -> u64
-    requires { FitsReply FitsStep StepNumber (says_step x) }
-    ensures { result ≡ packed_reply packed_step (says_step x) }
+fn pack_step(x: Result<Counts, Refusal>) -> u64
+    requires { FitsReply FitsStep StepNumber (said x) }
+    ensures { result ≡ packed_reply packed_step (said x) }
 {
     match x {
-        StepAnswer::Stepped(counts) => pack_counts(0, counts, 1),
-        StepAnswer::Refused(r) => pack_refusal(r),
+        Ok(counts) => pack_counts(0, counts, 1),
+        Err(r) => pack_refusal(r),
     }
 }
 
 // The number of a walk's answer.
-fn pack_walk(x: WalkAnswer) -> u64
-    requires { FitsReply FitsWalk WalkNumber (says_walk x) }
-    ensures { result ≡ packed_reply packed_walk (says_walk x) }
+fn pack_walk(x: Result<Walk, Refusal>) -> u64
+    requires { FitsReply FitsWalk WalkNumber (said x) }
+    ensures { result ≡ packed_reply packed_walk (said x) }
 {
     match x {
-        WalkAnswer::Walked(w) => {
+        Ok(w) => {
             let e = w.ending;
             pack_counts(ending_code(e), w.counts, w.steps)
         }
-        WalkAnswer::Refused(r) => pack_refusal(r),
+        Err(r) => pack_refusal(r),
     }
 }
 
@@ -130,7 +140,7 @@ fn pack_walk(x: WalkAnswer) -> u64
 pub extern "C" fn handover_check(array: &[u8], table: &[u8]) -> u64
     ensures { ChecksInC array.now table.now result }
 {
-    pack_verdict(handover::check(array, table))
+    pack_check(handover::check(array, table))
 }
 
 // Writes the mended table into the output. A refusal changes no byte.

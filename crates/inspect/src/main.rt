@@ -3,45 +3,32 @@
 // Thin: everything that matters is in the library. Its run over data/ is the reader's test.
 #![tactic(auto)]
 
-use arrays::ArrayAnswer;
 use records::Trailer;
-use std::rt::{Env, Files};
+use std::fmt;
+use std::rt::Files;
 
-fn print_read(rt: &impl Print, t: Trailer, remark: usize) {
-    lines::print_text(rt, b"read");
-    lines::print_figure(rt, t.nodes);
-    lines::print_figure(rt, t.names);
-    lines::print_figure(rt, remark);
-}
+// What the trailer says, and the remark's length.
+#[derive(Drop)]
+struct Read(Trailer, usize);
 
-// The line's rest, after the name.
-fn print_answer(rt: &impl Print, file: &[u8]) {
-    match handover::read_array(file) {
-        ArrayAnswer::Read(t) => {
-            let remark = handover::remark(file);
-            print_read(rt, t, remark.len());
-        }
-        ArrayAnswer::Refused(r) => lines::print_refusal(rt, r),
+impl fmt::Display for Read {
+    fn fmt<W: fmt::Write>(&self, f: &mut fmt::Formatter<W>) -> fmt::Result {
+        write!(f, "read {} {} {}", self.0.nodes, self.0.names, self.1)
     }
-    lines::print_text(rt, b"\n");
 }
 
-// One word more than the longest array file is enough to see that a file is too long.
-fn print_argument(rt: &(impl Env + Files + Print), i: usize) {
-    let mut file = [0u8; 17428];
-    let mut path = [0u8; 4096];
-    let length = lines::argument(rt, i, &mut path);
-    let n = lines::read_file(rt, &path[..length], &mut file);
-    lines::print_text(rt, &path[..length]);
+fn print_file(rt: &(impl Files + Print), path: &[u8]) {
+    let mut file = [0u8; lines::ARRAY_ROOM];
+    let file = lines::read_file(rt, path, &mut file);
+    lines::print_text(rt, path);
     lines::print_text(rt, b" ");
-    print_answer(rt, &file[..n]);
+    let answer = handover::read_array(file).map(|trailer| Read(
+        trailer,
+        handover::remark(file).len(),
+    ));
+    lines::print_answer(rt, answer);
 }
 
 fn main(rt: HostRuntime) {
-    let count = lines::argument_count(&rt);
-    let mut i: usize = 1;
-    while i < count {
-        print_argument(&rt, i);
-        i += 1;
-    }
+    lines::each_argument(&rt, |path| print_file(&rt, path));
 }

@@ -6,6 +6,7 @@ use native.Mathlib.Nat.{add-zero, add_assoc, zero-add}
 use native.Mathlib.Numerals.{add-one}
 use native.Mathlib.Omega.{arith}
 use lib.ListN.{length, take, drop, get_or, set, length-append, length-drop, take-append-drop, drop_of_length-le, get_or-append}
+use borrow.Rule.Slice.PartMut.{put_mid}
 use lib.Seq.{take_at, take-suc, drop_at, set_split, drop-drop, get_or-drop, get_or-append-add, length-take-le}
 use Rattle.laws.specs.Lists.{put}
 
@@ -38,6 +39,13 @@ module _ {A : Type 0} where
   pub set-as-put : (l : List A) (k : ℕ) (a : A) → k < length l → set l k a ≡ put k (a ∷ []) l
   unfolding put
   set-as-put l k a h = set_split l k a h ∙ ap (λ (n : ℕ). take k l ++ (a ∷ drop n l)) (sym (add-one k))
+
+  -- a part, from `at` to an end, in place of which words were written: what copy_from_slice leaves
+  pub put-part : (at end : ℕ) (xs l : List A) → at ≤ end → length xs ≡ end - at → put_mid at (end - at) l xs ≡ put at xs l
+  unfolding put
+  put-part at end xs l h e =
+      let n : at + (end - at) ≡ at + length xs = omega arith in
+      ap (λ (t : List A). take at l ++ (xs ++ t)) (drop-drop (end - at) at l ∙ ap (λ (k : ℕ). drop k l) n)
 
   -- words written where they stand already
   pub put_same : (at w : ℕ) (l : List A) → at + w ≤ length l → put at (take w (drop at l)) l ≡ l
@@ -97,7 +105,7 @@ module _ {A : Type 0} where
         set-as-put (put at xs l) (at + length xs) a k' ∙ put-put (a ∷ [])
 
   -- two and four words written one after the other
-  pub put_two : (l : List A) (at : ℕ) (a b : A) → at + 1 < length l → set (set l at a) (at + 1) b ≡ put at (a ∷ b ∷ []) l
+  put_two : (l : List A) (at : ℕ) (a b : A) → at + 1 < length l → set (set l at a) (at + 1) b ≡ put at (a ∷ b ∷ []) l
   put_two l at a b h = ap (λ (m : List A). set m (at + 1) b) (set-as-put l at a (omega arith)) ∙ set-put at (a ∷ []) l (omega arith) b (omega arith)
 
   pub put_four : (l : List A) (at : ℕ) (a b c d : A) → at + 3 < length l

@@ -6,7 +6,7 @@ use native.Mathlib.Nat.{min-le_left, min-le_right, min-eq_left, min-eq_right}
 use native.Mathlib.Numerals.{add-one}
 use native.Mathlib.Omega.{arith}
 use mathlib.Core.Path.{◌≡◌, refl, sym, ap, ap₂, ◌∙◌}
-use mathlib.Core.Logic.{◌⊎◌, inl, inr, ◌≢◌, ⊎_elim}
+use mathlib.Core.Logic.{◌⊎◌, inl, inr, ◌≢◌, ◌↔◌, ⊎_elim}
 use mathlib.Core.Bool as B
 use mathlib.Core.Bool.{Bool, true, false, not, ◌&&◌, ◌||◌, and-true, and-false, and_assoc, or_assoc, and-or_distrib_left, false≢true, true≢false}
 use lib.Dec.{eqb, ltb, leb}
@@ -213,6 +213,10 @@ pub true-every : (n : ℕ) (f : ℕ → Bool) → ((j : ℕ) → j < n → f j �
 unfolding every
 true-every zero f h = refl
 true-every (suc n) f h = and-join (true-every n f (λ j l. h j (omega arith))) (h n (omega arith))
+
+-- a test of each number below n, as an iterator's `all` tells it
+pub every-told : (n : ℕ) (f : ℕ → Bool) {b : Bool} → (b ≡ true ↔ ((j : ℕ) → j < n → f j ≡ true)) → b ≡ every n f
+every-told n f {b} e = same_test b (every n f) (λ h. true-every n f (e.0 h)) (λ h. e.1 (every_true n f h))
 
 -- a loop passes n
 pub every-pass : (f : ℕ → Bool) (n : ℕ) → every n f ≡ true → f n ≡ true → every (n + 1) f ≡ true

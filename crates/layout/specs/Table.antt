@@ -1,6 +1,6 @@
 -- The table file: its parts, the table that its bytes stand for, and refusals 13 to 21, 30 and 31 (01, "The table file", "Refusals, in
 -- checking order"; 02, requests i and ii).
-use Rattle.std.specs.Prelude.{ℕ, zero, suc, ◌+◌, ◌*◌, ◌-◌, ◌/◌, ◌%◌, ◌≤◌, ◌≡◌, Bool, true, cond, not, ◌&&◌, ◌||◌, List, eqb, leb, ltb, length, get_or}
+use Rattle.std.specs.Prelude.{ℕ, zero, suc, ◌+◌, ◌*◌, ◌-◌, ◌/◌, ◌%◌, ◌≤◌, ◌≡◌, Bool, true, cond, not, ◌&&◌, ◌||◌, List, Option, Some, None, is_some, eqb, leb, ltb, length, get_or}
 use Rattle.laws.specs.Search.{Found, clear, first, every}
 use Rattle.laws.specs.Bits.{bit}
 use Rattle.wire.specs.Numbers.{u16_at, u32_at, word_sum}
@@ -11,6 +11,8 @@ use Rattle.model.specs.declared.Claim.{Claim}
 use Rattle.model.specs.Rules.{Table, row_bits, together, comes_after}
 use Rattle.records.specs.declared.Trailer.{Trailer}
 use Rattle.records.specs.Record.{array_of}
+use Rattle.layout.specs.declared.Form.{Form}
+use Rattle.layout.specs.declared.Form.TheVariants.{Pic1}
 use Rattle.layout.specs.declared.Sizes.{Sizes}
 
 -- ---- the parts of the file
@@ -19,15 +21,15 @@ use Rattle.layout.specs.declared.Sizes.{Sizes}
 abbrev pub pic1 : ℕ
 pic1 = 80 + 256 * 73 + 65536 * 67 + 16777216 * 49
 
--- the format that the letters name; 0 stands for none
-abbrev pub table_form : ℕ → ℕ
-table_form letters = cond (eqb letters pic1) 1 0
+-- the format that the letters name, if any
+abbrev pub table_form : ℕ → Option Form
+table_form letters = cond (eqb letters pic1) (Some Pic1) None
 
 -- what a format says: "rows of 32 bytes", "K of them, at most 24"
-abbrev pub row_size : ℕ → ℕ
+abbrev pub row_size : Option Form → ℕ
 row_size form = 32
 
-abbrev pub most_balances : ℕ → ℕ
+abbrev pub most_balances : Option Form → ℕ
 most_balances form = 24
 
 -- "Balances: K of them, each a bound (32 bits) and M weights (16 bits each), padded with two zero bytes if M is odd."
@@ -86,7 +88,7 @@ refusal13 s = refuse 13 0 (table_length_fits s)
 
 -- "14. Its letters are wrong."
 abbrev pub refusal14 : Sizes → Found F.Refusal
-refusal14 z = refuse 14 0 (eqb z.form 1)
+refusal14 z = refuse 14 0 (is_some z.form)
 
 -- "15. K is above 24 or Q above 256."
 abbrev pub table_counts_fit : Sizes → Bool

@@ -2,44 +2,47 @@
 // Promises equations with specs/Table, which also holds refusals 13 to 21, 30 and 31. Depends on records, wire, model and laws.
 #![tactic(auto)]
 
-ghost use Rattle.std.specs.Prelude.{◌≡◌, ◌≤◌, ◌<◌, length};
+ghost use Rattle.std.specs.Prelude.{◌≡◌, ℕ, ◌≤◌, ◌<◌, length, get_or};
 ghost use Rattle.layout.specs.Table.{table_form, row_size, most_balances, sizes_of, balance_size, balance_at, claim_at, claim_of, ClaimsLie};
 
 use model::Claim;
 use records::Trailer;
 
-// M, N, K and Q, and which format the letters name: 1 for `PIC1`, 0 for letters that are none.
+// A format of table files, by its letters.
+#[derive(Clone, Copy)]
+pub enum Form {
+    Pic1,
+}
+
+// M, N, K and Q, and which format the letters name, if any.
 #[derive(Clone, Copy)]
 pub struct Sizes {
     pub nodes: usize,
     pub names: usize,
     pub balances: usize,
     pub claims: usize,
-    pub form: usize,
+    pub form: Option<Form>,
+}
+
+// A table file beside its sizes, by which its rows, balances and claims lie in it. That its elements are bytes is said for proofs: a slice in a struct
+// does not tell them.
+#[derive(Clone, Copy)]
+pub struct TableFile<'a> {
+    pub bytes: &'a [u8],
+    pub sizes: Sizes,
+    ghost lies: { ClaimsLie bytes.now sizes },
+    ghost are_bytes: { (i : ℕ) → get_or bytes.now i 0 < 256 },
 }
 
 // The format that the letters name.
-fn table_form(letters: u32) -> usize
+fn table_form(letters: u32) -> Option<Form>
     ensures { result ≡ table_form letters }
 {
     if letters == 826493264 {
-        return 1;
+        Some(Form::Pic1)
+    } else {
+        None
     }
-    0
-}
-
-// How many bytes a flow row takes.
-pub fn row_size(form: usize) -> usize
-    ensures { result ≡ row_size form }
-{
-    32
-}
-
-// The greatest K.
-pub fn most_balances(form: usize) -> usize
-    ensures { result ≡ most_balances form }
-{
-    24
 }
 
 // The sizes that the two trailers say.
@@ -57,40 +60,70 @@ pub fn read_sizes(t: Trailer, table: &[u8]) -> Sizes
     }
 }
 
-// How many bytes a balance takes.
-fn balance_size(z: Sizes) -> usize
-    requires { z.nodes ≤ 1024 }
-    ensures { result ≡ balance_size z }
-{
-    4 + 2 * (z.nodes + z.nodes % 2)
+impl Sizes {
+    // How many bytes a flow row takes.
+    fn row_size(self) -> usize
+        ensures { result ≡ row_size self.form }
+    {
+        32
+    }
+
+    // The greatest K.
+    pub fn most_balances(self) -> usize
+        ensures { result ≡ most_balances self.form }
+    {
+        24
+    }
+
+    // How many bytes a balance takes.
+    fn balance_size(self) -> usize
+        requires { self.nodes ≤ 1024 }
+        ensures { result ≡ balance_size self }
+    {
+        4 + 2 * (self.nodes + self.nodes % 2)
+    }
+
+    // Where balance k stands.
+    pub fn balance_at(self, k: usize) -> usize
+        requires { (self.nodes ≤ 1024) × (self.names ≤ 256) × (k ≤ 24) }
+        ensures { result ≡ balance_at self k }
+    {
+        self.row_size() * self.names + k * self.balance_size()
+    }
+
+    // Where claim c stands.
+    pub fn claim_at(self, c: usize) -> usize
+        requires { (self.nodes ≤ 1024) × (self.names ≤ 256) × (self.balances ≤ 24) × (c ≤ 256) }
+        ensures { result ≡ claim_at self c }
+    {
+        self.balance_at(self.balances) + 8 * c
+    }
 }
 
-// Where balance k stands.
-pub fn balance_at(z: Sizes, k: usize) -> usize
-    requires { (z.nodes ≤ 1024) × (z.names ≤ 256) × (k ≤ 24) }
-    ensures { result ≡ balance_at z k }
-{
-    row_size(z.form) * z.names + k * balance_size(z)
+impl TableFile<'_> {
+    // Claim c.
+    pub fn claim(&self, c: usize) -> Claim
+        requires { c < self.now.sizes.claims }
+        ensures { result ≡ claim_of self.now.bytes.now (claim_at self.now.sizes c) }
+    {
+        let at = self.sizes.claim_at(c);
+        Claim {
+            agent: wire::u16_at(self.bytes, at),
+            most: wire::u16_at(self.bytes, at + 2),
+            balance: wire::u16_at(self.bytes, at + 4),
+            set: wire::u16_at(self.bytes, at + 6),
+        }
+    }
 }
 
-// Where claim c stands.
-pub fn claim_at(z: Sizes, c: usize) -> usize
-    requires { (z.nodes ≤ 1024) × (z.names ≤ 256) × (z.balances ≤ 24) × (c ≤ 256) }
-    ensures { result ≡ claim_at z c }
-{
-    balance_at(z, z.balances) + 8 * c
-}
-
-// Claim c.
+// Claim c of a table that is passed beside its sizes, as docs name it.
 pub fn read_claim(table: &[u8], z: Sizes, c: usize) -> Claim
     requires { ClaimsLie table.now z × (c < z.claims) }
     ensures { result ≡ claim_of table.now (claim_at z c) }
 {
-    let at = claim_at(z, c);
-    Claim {
-        agent: wire::u16_at(table, at),
-        most: wire::u16_at(table, at + 2),
-        balance: wire::u16_at(table, at + 4),
-        set: wire::u16_at(table, at + 6),
-    }
+    let table = TableFile {
+        bytes: table,
+        sizes: z,
+    };
+    table.claim(c)
 }

@@ -1,99 +1,47 @@
 // The lines that answers are printed as, files read whole, and the program's arguments: one place for every program.
 // Promises nothing beyond safety: what is written to a file no contract can say; the programs' stored output tests it.
-// Depends on handover, layout and records (the verdict) and model (the endings).
+// Depends on records (the refusal).
 #![tactic(auto)]
 
-ghost use Rattle.std.specs.Prelude.{◌≤◌, length};
+ghost use Rattle.std.specs.Prelude.{◌≤◌, length, IfSome};
 
-use handover::Verdict;
-use layout::Sizes;
-use model::Ending;
 use records::Refusal;
 use std::env::{Env, FillError};
+use std::fmt::Display;
 use std::io::Read;
 use std::rt::Files;
 use std::{fs, str};
+
+// Room for one word more than the longest array file and table file have, so that a longer one is seen to be too long. Fixed, so that no program fails
+// for want of memory.
+pub const ARRAY_ROOM: usize = 17428;
+
+pub const TABLE_ROOM: usize = 59520;
 
 // Writes the bytes. What can't be written is passed over, here and below.
 pub fn print_text(rt: &impl Print, text: &[u8]) {
     let _ = rt.write_all(text);
 }
 
-pub fn print_number(rt: &impl Print, n: usize) {
-    let _ = print!(rt; "{n}");
+fn print_line(rt: &impl Print, line: &impl Display) {
+    let _ = println!(rt; "{line}");
 }
 
-// A space and the number.
-pub fn print_figure(rt: &impl Print, n: usize) {
-    print_text(rt, b" ");
-    print_number(rt, n);
+pub fn print_refusal(rt: &impl Print, refusal: Refusal) {
+    print_line(rt, &refusal);
 }
 
-fn print_held(rt: &impl Print, z: Sizes) {
-    print_text(rt, b"held");
-    print_figure(rt, z.nodes);
-    print_figure(rt, z.names);
-    print_figure(rt, z.balances);
-    print_figure(rt, z.claims);
-}
-
-fn print_rule(rt: &impl Print, number: usize, figure: usize) {
-    print_text(rt, b"rule");
-    print_figure(rt, number);
-    print_figure(rt, figure);
-}
-
-fn print_pair(rt: &impl Print, number: usize, p: usize, q: usize, figure: usize) {
-    print_rule(rt, number, p);
-    print_figure(rt, q);
-    print_figure(rt, figure);
-}
-
-pub fn print_refusal(rt: &impl Print, r: Refusal) {
-    print_text(rt, b"refused");
-    print_figure(rt, r.number as usize);
-    print_figure(rt, r.place);
-}
-
-// A refusal's line.
-pub fn print_refused(rt: &impl Print, r: Refusal) {
-    print_refusal(rt, r);
-    print_text(rt, b"\n");
-}
-
-// `mended` and the number of bits set.
-pub fn print_mended(rt: &impl Print, bits: usize) {
-    print_text(rt, b"mended");
-    print_figure(rt, bits);
-    print_text(rt, b"\n");
-}
-
-// 01's word for an ending.
-pub fn print_ending(rt: &impl Print, ending: Ending) {
-    match ending {
-        Ending::Quiet => print_text(rt, b"quiet"),
-        Ending::Spent => print_text(rt, b"spent"),
-        Ending::Full => print_text(rt, b"full"),
+// The answer's line: what it says, or the refusal.
+pub fn print_answer<T: Display + Drop>(rt: &impl Print, answer: Result<T, Refusal>) {
+    match answer {
+        Ok(said) => print_line(rt, &said),
+        Err(refusal) => print_line(rt, &refusal),
     }
 }
 
-// `held`, M, N, K, Q; or `rule`, its number and place figures; or `refused`, number, place.
-pub fn print_verdict(rt: &impl Print, v: Verdict) {
-    match v {
-        Verdict::Held(z) => print_held(rt, z),
-        Verdict::Rule1(o) => print_rule(rt, 1, o),
-        Verdict::Rule2(k) => print_rule(rt, 2, k),
-        Verdict::Rule3(p, q, n) => print_pair(rt, 3, p, q, n),
-        Verdict::Rule4(p, q, k) => print_pair(rt, 4, p, q, k),
-        Verdict::Rule5(c) => print_rule(rt, 5, c),
-        Verdict::Refused(r) => print_refusal(rt, r),
-    }
-    print_text(rt, b"\n");
-}
-
-// Reads until the buffer is full, the input ends or a read fails, and answers how much came.
-pub fn read_full<R: Read>(input: &mut R, buffer: &mut [u8]) -> usize
-    ensures { result ≤ length buffer.new }
+// Reads until the buffer is full, the input ends or a read fails, and answers what came. (A read may bring less than was asked.)
+pub fn read_full<'a, R: Read>(input: &mut R, buffer: &'a mut [u8]) -> &'a [u8]
+    ensures { length result.now ≤ length buffer.old }
 {
     let mut done: usize = 0;
     while done < buffer.len() {
@@ -102,36 +50,66 @@ pub fn read_full<R: Read>(input: &mut R, buffer: &mut [u8]) -> usize
             Ok(n) => done += n,
         }
     }
-    done
+    &buffer[..done]
 }
 
-// Reads the file at a path into a buffer and answers how much came; a file that can't be opened counts as empty, and so does one whose path is
-// not UTF-8.
-pub fn read_file(rt: &impl Files, path: &[u8], buffer: &mut [u8]) -> usize
-    ensures { result ≤ length buffer.new }
+// Reads the file at a path into a buffer and answers what came; a file that can't be opened counts as empty, and so does one whose path is not
+// UTF-8.
+pub fn read_file<'a>(rt: &impl Files, path: &[u8], buffer: &'a mut [u8]) -> &'a [u8]
+    ensures { length result.now ≤ length buffer.old }
 {
     let Ok(name) = str::from_utf8(path) else {
-        return 0;
+        return &[];
     };
     let Ok(mut file) = fs::open(rt, name) else {
-        return 0;
+        return &[];
     };
     read_full(&mut file, buffer)
 }
 
-// How many arguments the program has, its own name among them. One that does not fit is there all the same.
-pub fn argument_count(rt: &impl Env) -> usize {
-    for i in 0..usize::MAX {
-        if let Err(FillError::NotPresent) = rt.arg(i, &mut []) {
-            return i;
-        }
+// The program's argument i in a buffer, empty where it does not fit; none past the last one. (`env::args` needs an allocator, and a path that is
+// UTF-8.)
+pub fn argument<'a>(rt: &impl Env, i: usize, buffer: &'a mut [u8]) -> Option<&'a [u8]>
+    ensures { IfSome result (λ part. length part.now ≤ length buffer.old) }
+{
+    match rt.arg(i, buffer) {
+        Ok(n) => Some(&buffer[..n]),
+        Err(FillError::TooLong) => Some(&[]),
+        Err(FillError::NotPresent) => None,
     }
-    usize::MAX
 }
 
-// Puts argument i at the start of a buffer and answers its length; 0 where it is missing or does not fit.
-pub fn argument(rt: &impl Env, i: usize, buffer: &mut [u8]) -> usize
-    ensures { result ≤ length buffer.new }
+// Hands over each argument behind the program's name.
+pub fn each_argument<F: Fn(&[u8])>(rt: &impl Env, tell: F)
+    requires { F.IsAlwaysCallable tell }
 {
-    rt.arg(i, buffer).unwrap_or(0)
+    let mut path = [0u8; 4096];
+    for i in 1..usize::MAX {
+        let Some(path) = argument(rt, i, &mut path) else {
+            return;
+        };
+        tell(path);
+    }
+}
+
+// Reads each pair of files that the arguments name, an array file and a table file, and hands both over behind the second one's name, printed.
+pub fn each_pair<F: Fn(&[u8], &[u8])>(rt: &(impl Env + Files + Print), tell: F)
+    requires { F.IsAlwaysCallable tell }
+{
+    let mut array = [0u8; ARRAY_ROOM];
+    let mut table = [0u8; TABLE_ROOM];
+    let mut path = [0u8; 4096];
+    for i in (1..usize::MAX).step_by(2) {
+        let Some(name) = argument(rt, i, &mut path) else {
+            return;
+        };
+        let array = read_file(rt, name, &mut array);
+        let Some(name) = argument(rt, i + 1, &mut path) else {
+            return;
+        };
+        let table = read_file(rt, name, &mut table);
+        print_text(rt, name);
+        print_text(rt, b" ");
+        tell(array, table);
+    }
 }

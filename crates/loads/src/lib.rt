@@ -6,12 +6,14 @@
 ghost use Rattle.std.specs.Prelude.{◌≡◌, true, ℕ, ◌+◌, ◌<◌, ltb, length};
 ghost use Rattle.laws.specs.Lists.{has};
 ghost use Rattle.model.specs.Formed.{children, WellFormed};
-ghost use Rattle.records.specs.Record.{node_of, array_of, RecordsFit};
-ghost use Rattle.layout.specs.Table.{table_of, Laid};
+ghost use Rattle.records.specs.ArrayFile.{array_in};
+ghost use Rattle.records.specs.Record.{node_of};
+ghost use Rattle.layout.specs.Table.{Laid};
+ghost use Rattle.layout.specs.TableFile.{table_in};
 ghost use Rattle.loads.specs.Loads.{entry_index, load_in, Half, load_from, FilledFrom, AllLoads};
 
-use layout::Sizes;
-use records::{Record, Trailer};
+use layout::TableFile;
+use records::{ArrayFile, Record};
 
 // The entry of node i in balance k.
 pub fn entry(i: usize, k: usize) -> usize
@@ -63,30 +65,25 @@ fn load_of(loads: &[u32], r: Record, k: usize, weight: u32) -> u32
 }
 
 // The loads of node i in every balance, from those of the nodes above it.
-fn fill_node(loads: &mut [u32], file: &[u8], t: Trailer, table: &[u8], z: Sizes, i: usize)
-    requires records_fit { RecordsFit file.now t × WellFormed (array_of file.now t) × Laid t table.now z }
-    requires loads_len { (length loads.old ≡ 24578) × (i < t.nodes) × FilledFrom loads.old (array_of file.now t) (table_of table.now z) (i + 1) }
-    ensures { FilledFrom loads.new (array_of file.now t) (table_of table.now z) i }
+fn fill_node(loads: &mut [u32; 24578], array: &ArrayFile, table: &TableFile, i: usize)
+    requires formed { WellFormed (array_in array.now) × Laid array.now.trailer table.now.bytes.now table.now.sizes }
+    requires filled { (i < array.now.trailer.nodes) × FilledFrom loads.old (array_in array.now) (table_in table.now) (i + 1) }
+    ensures { FilledFrom loads.new (array_in array.now) (table_in table.now) i }
 {
-    let r = records::node_at(file, t, i);
-    let mut k: usize = 0;
-    while k < z.balances {
-        let weight = wire::u16_at(table, layout::balance_at(z, k) + 4 + 2 * i) as u32;
+    let r = array.node_at(i);
+    for k in 0..table.sizes.balances {
+        let weight = wire::u16_at(table.bytes, table.sizes.balance_at(k) + 4 + 2 * i) as u32;
         let load = load_of(loads, r, k, weight);
         loads[entry(i, k)] = load;
-        k += 1;
     }
 }
 
 // The loads of all nodes in all balances.
-pub fn all_loads(loads: &mut [u32], file: &[u8], t: Trailer, table: &[u8], z: Sizes)
-    requires records_fit { RecordsFit file.now t × WellFormed (array_of file.now t) × Laid t table.now z }
-    requires loads_len { length loads.old ≡ 24578 }
-    ensures { AllLoads loads.new (array_of file.now t) (table_of table.now z) }
+pub fn all_loads(loads: &mut [u32; 24578], array: &ArrayFile, table: &TableFile)
+    requires { WellFormed (array_in array.now) × Laid array.now.trailer table.now.bytes.now table.now.sizes }
+    ensures { AllLoads loads.new (array_in array.now) (table_in table.now) }
 {
-    let mut i = t.nodes;
-    while 0 < i {
-        i -= 1;
-        fill_node(loads, file, t, table, z, i);
+    for i in (0..array.trailer.nodes).rev() {
+        fill_node(loads, array, table, i);
     }
 }

@@ -1,16 +1,21 @@
 -- Entries read and written, the place of an entry among the first ones, and marks of places.
-use Prim.Native.Nat.{ℕ, zero, suc, ◌+◌, ◌*◌, ◌<◌, suc-le-suc}
+use Prim.Native.Nat.{ℕ, zero, suc, ◌+◌, ◌*◌, ◌-◌, ◌<◌, ◌≤◌, suc-le-suc, zero-le}
 use native.Mathlib.Nat.{not-suc-le-zero, le_of_suc-le-suc, eq-or-lt_of_le, add-zero}
 use native.Mathlib.Omega.{arith}
 use mathlib.Core.Path.{◌≡◌, refl, sym, ap, ap₂, ◌∙◌}
 use mathlib.Core.Logic.{◌⊎◌, inl, inr, ⊎_elim}
-use mathlib.Core.Bool.{Bool, true, false, cond, not, ◌||◌, true≢false}
+use mathlib.Core.Bool.{Bool, true, false, cond, not, ◌&&◌, and_assoc, true≢false}
 use mathlib.Core.List.{List, [], ◌∷◌}
 use lib.Dec.{eqb, ltb}
-use lib.ListN.{length, get_or, drop}
-use lib.Seq.{get_or-drop}
+use Rattle.std.specs.Prelude.{Option, None, Some, MatchOption, is_some}
+use lib.ListN.{length, get_or, take, drop}
+use lib.Seq.{get_or-take, drop-drop}
+use borrow.Rule.Slice.PartMut.{put_mid}
+use Rattle.std.specs.List.{list_all, range_with_len}
+use Rattle.laws.specs.Lists.{put}
+use Rattle.laws.specs.Search.{every}
 use borrow.Author.Tests.{lt-ltb, le-ltb, eq-eqb}
-use Rattle.laws.proofs.Search.{decided, or_left, or_right, every-same, every-not, any-zero, any_step, any-true, any_false}
+use Rattle.laws.proofs.Search.{decided, or_left, or_right, every-same, every-cons, every-not, any-true, any_false}
 use Rattle.marks.specs.Marks.{marked, mark_if}
 use Rattle.marks.proofs.Laws.{marked-set}
 use Rattle.model.specs.Numbers.{Entry, no_entry, same_entry, position}
@@ -21,15 +26,41 @@ use Rattle.markers.specs.Markers.{slot_of, Seen, listed}
 
 -- ---- one entry read and written
 
-pub entry-words : (l : List ℕ) (at : ℕ)
-    → record { resource = get_or l at 0; out = get_or l (at + 1) 0; left = get_or l (at + 2) 0; right = get_or l (at + 3) 0 } ≡ entry_in (drop at l)
+-- an entry of the first four words
+pub entry-front : (l xs : List ℕ) → xs ≡ take 4 l
+    → record { resource = get_or xs 0 0; out = get_or xs 1 0; left = get_or xs 2 0; right = get_or xs 3 0 } ≡ entry_in l
 unfolding entry_in
-entry-words l at =
-    let a : get_or l at 0 ≡ get_or (drop at l) 0 0 = ap (λ (n : ℕ). get_or l n 0) (sym (add-zero at)) ∙ sym (get_or-drop at l 0 0) in
-    let b = sym (get_or-drop at l 1 0) in
-    let c = sym (get_or-drop at l 2 0) in
-    let d = sym (get_or-drop at l 3 0) in
-    λ i. record { resource = a i; out = b i; left = c i; right = d i }
+entry-front l xs e =
+    rw e (simp (get_or-take 4 l 0 0 (omega arith), get_or-take 4 l 1 0 (omega arith), get_or-take 4 l 2 0 (omega arith), get_or-take 4 l 3 0 (omega arith)))
+
+-- words written in place of a part of the list
+pub put-part : (at end : ℕ) (l : List ℕ) {new xs : List ℕ} → end ≡ at + length xs → new ≡ xs → put_mid at (end - at) l new ≡ put at xs l
+unfolding put
+put-part at end l {new} {xs} e h =
+    let n : end - at ≡ length xs = omega arith in
+    rw (h, n, drop-drop)
+
+-- equality by its four tests, as the derived one makes them
+pub same_derived : (d e : Entry) → same_entry d e ≡ eqb d.resource e.resource && (eqb d.out e.out && (eqb d.left e.left && eqb d.right e.right))
+unfolding same_entry
+same_derived d e =
+    let r = eqb d.resource e.resource in
+    let o = eqb d.out e.out in
+    let m = eqb d.left e.left in
+    let n = eqb d.right e.right in
+    and_assoc (r && o) m n ∙ and_assoc r o (m && n)
+
+-- a test of all numbers of a range
+every-range : (f : ℕ → Bool) (a n : ℕ) → list_all f (range_with_len a n) ≡ every n (λ k. f (a + k))
+unfolding every
+every-range f a zero = refl
+every-range f a (suc n) =
+    ap₂ ◌&&◌ (ap f (sym (add-zero a)))
+    (every-range f (a + 1) n ∙ every-same n _ (λ k. f (a + suc k)) (λ k h. let e : a + 1 + k ≡ a + suc k = omega arith in ap f e))
+    ∙ sym (every-cons n (λ k. f (a + k)))
+
+pub every-below : (f : ℕ → Bool) (n : ℕ) → list_all f (range_with_len 0 n) ≡ every n f
+every-below f n = every-range f 0 n ∙ every-same n _ f (λ k h. let e : 0 + k ≡ k = omega arith in ap f e)
 
 -- ---- the place of an entry
 
@@ -61,31 +92,32 @@ module _ (e : Entry) where
       go true m = omega arith
       go false m = suc-le-suc m
 
-module _ (l : List ℕ) (e : Entry) where
-  pub listed-zero : listed l 0 e ≡ false
+module _ (l : List ℕ) (e : Entry) (n : ℕ) where
+  -- entry j equals e
+  abbrev same_at : ℕ → Bool
+  same_at j = same_entry (entry_in (drop (4 * j) l)) e
+
+  as-listed : (k : ℕ) → k ≤ n → ((j : ℕ) → j < k → same_at j ≡ false) → (j : ℕ) → j < k → same_entry (get_or (entries_in n l) j no_entry) e ≡ false
+  as-listed k h f j m = let q : j < n = omega arith in rw (entries_at j n l q) (f j m)
+
+  found_none : ((j : ℕ) → j < n → same_at j ≡ false) → position e (entries_in n l) ≡ n
+  found_none f =
+      position-none e (entries_in n l) (λ j m. as-listed n (omega arith) f j (rw (length-entries n l) at m)) ∙ length-entries n l
+
+  -- the entry that a search from the front finds
+  pub found : (r : Option ℕ)
+      → MatchOption r ((j : ℕ) → 0 ≤ j → j < n → same_at j ≡ false)
+      (λ k. (0 ≤ k) × (k < n) × (same_at k ≡ true) × ((j : ℕ) → 0 ≤ j → j < k → same_at j ≡ false))
+      → MatchOption r (position e (entries_in n l) ≡ n) (λ k. (k < n) × (position e (entries_in n l) ≡ k))
+  found None f = found_none (λ j. f j zero-le)
+  found (Some k) f = (
+    f.1,
+    position_here e (entries_in n l) k (rw (length-entries n l) f.1) (as-listed k (omega arith) (λ j. f.3 j zero-le)) (rw (entries_at k n l f.1) f.2),
+  )
+
+  listed_found : ltb (position e (entries_in n l)) n ≡ listed l n e
   unfolding listed
-  listed-zero = any-zero _
-
-  pub listed-step : (k : ℕ) → listed l (k + 1) e ≡ listed l k e || same_entry (entry_in (drop (4 * k) l)) e
-  unfolding listed
-  listed-step k = any_step _ k
-
-  -- where none of the first k equals e
-  other : (k n j : ℕ) → listed l k e ≡ false → j < k → j < n → same_entry (get_or (entries_in n l) j no_entry) e ≡ false
-  unfolding listed
-  other k n j h m q = rw (entries_at j n l q) (any_false k _ h j m)
-
-  pub found_here : (k n : ℕ) → k < n → listed l k e ≡ false → same_entry (entry_in (drop (4 * k) l)) e ≡ true → position e (entries_in n l) ≡ k
-  found_here k n h before here =
-      position_here e (entries_in n l) k (rw (length-entries n l) h) (λ j m. other k n j before m (omega arith)) (rw (entries_at k n l h) here)
-
-  pub found_none : (n : ℕ) → listed l n e ≡ false → position e (entries_in n l) ≡ n
-  found_none n h =
-      position-none e (entries_in n l) (λ j m. let q : j < n = rw (length-entries n l) at m in other n n j h q q) ∙ length-entries n l
-
-  pub listed_found : (n : ℕ) → ltb (position e (entries_in n l)) n ≡ listed l n e
-  unfolding listed
-  listed_found n = go (decided (listed l n e))
+  listed_found = go (decided (listed l n e))
     where
       go : (listed l n e ≡ true) ⊎ (listed l n e ≡ false) → ltb (position e (entries_in n l)) n ≡ listed l n e
       go (inl q) =
@@ -94,7 +126,12 @@ module _ (l : List ℕ) (e : Entry) where
           let m : s.0 < length (entries_in n l) = rw (length-entries n l) s.1 in
           let p = position-before e (entries_in n l) s.0 m here in
           rw q (lt-ltb _ n (rw (length-entries n l) at p))
-      go (inr q) = rw (q, found_none n q) (le-ltb n n (omega arith))
+      go (inr q) = rw (q, found_none (any_false n _ q)) (le-ltb n n (omega arith))
+
+  -- e is listed where it is found
+  pub listed_told : (r : Option ℕ) → MatchOption r (position e (entries_in n l) ≡ n) (λ k. (k < n) × (position e (entries_in n l) ≡ k)) → is_some r ≡ listed l n e
+  listed_told None h = sym (ap (λ (k : ℕ). ltb k n) h ∙ le-ltb n n (omega arith)) ∙ listed_found
+  listed_told (Some k) h = sym (ap (λ (j : ℕ). ltb j n) h.1 ∙ lt-ltb k n h.0) ∙ listed_found
 
 -- ---- marks of places
 

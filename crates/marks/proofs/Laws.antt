@@ -1,14 +1,15 @@
 -- What a row holds after a mark, two rows word by word, and the rows of a file.
-use Prim.Native.Nat.{ℕ, zero, suc, ◌+◌, ◌*◌, ◌/◌, ◌%◌, ◌^◌, ◌≤◌, ◌<◌}
+use Prim.Native.Nat.{ℕ, ◌+◌, ◌*◌, ◌/◌, ◌%◌, ◌^◌, ◌≤◌, ◌<◌}
 use native.Mathlib.Nat.{zero-add}
 use native.Mathlib.Omega.{arith}
 use mathlib.Core.Path.{◌≡◌, refl, sym, ap, ap₂, ◌∙◌}
 use mathlib.Core.Logic.{◌⊎◌, inl, inr, ⊎_elim}
 use mathlib.Core.Bool.{Bool, true, false, cond, not, ◌&&◌, ◌||◌, and-false, or-false}
-use mathlib.Core.List.{List, [], ◌∷◌}
+use mathlib.Core.List.{List}
 use lib.Bits.{bit_or}
 use lib.Dec.{eqb, ltb}
-use lib.ListN.{length, get_or, replicate, length-set, get_or-eq_default}
+use lib.ListN.{length, get_or, take, drop, replicate, length-set, get_or-eq_default}
+use lib.Seq.{get_or-take, get_or-drop}
 use borrow.Author.Tests.{eqb-true, eqb-false, eq-eqb, ne_eqb, ltb-true, ltb-false, lt-ltb}
 use Rattle.laws.specs.Search.{any, every}
 use Rattle.laws.specs.Bits.{bit}
@@ -66,15 +67,6 @@ unfolding mark_if
 marked_more row false v u l h = sym (or-false _)
 marked_more row true v u l h = marked-set row v u (omega arith)
 
--- general
-any-four : (f : ℕ → Bool) → any 4 f ≡ f 0 || f 1 || f 2 || f 3
-unfolding any
-any-four f = refl
-
-every-four : (f : ℕ → Bool) → every 4 f ≡ f 0 && f 1 && f 2 && f 3
-unfolding every
-every-four f = refl
-
 -- ---- two rows, word by word
 
 -- the names of word j of a row
@@ -86,21 +78,19 @@ marked-word t u j k h =
     ap₂ (λ (m n : ℕ). bit (get_or t (word_at u m) 0) n) q r
 
 pub share-words : (s : List ℕ) (u : ℕ) (t : List ℕ) (v : ℕ)
-    → share s u t v ≡ words_share s u t v 0 || words_share s u t v 1 || words_share s u t v 2 || words_share s u t v 3
+    → share s u t v ≡ any 4 (words_share s u t v)
 unfolding share words_share
 share-words s u t v =
     any-blocks 64 4 (λ o. marked s u o && marked t v o)
     ∙ any_same 4 _ (words_share s u t v) (λ j h. any_same 64 _ _ (λ k l. ap₂ ◌&&◌ (marked-word s u j k l) (marked-word t v j k l)))
-    ∙ any-four (words_share s u t v)
 
 pub inside-words : (s : List ℕ) (u : ℕ) (t : List ℕ) (v : ℕ)
-    → inside s u t v ≡ word_inside s u t v 0 && word_inside s u t v 1 && word_inside s u t v 2 && word_inside s u t v 3
+    → inside s u t v ≡ every 4 (word_inside s u t v)
 unfolding inside word_inside
 inside-words s u t v =
     every-blocks 64 4 (λ o. not (marked s u o) || marked t v o)
     ∙ every-same 4 _ (word_inside s u t v)
     (λ j h. every-same 64 _ _ (λ k l. ap₂ (λ (a b : Bool). not a || b) (marked-word s u j k l) (marked-word t v j k l)))
-    ∙ every-four (word_inside s u t v)
 
 -- ---- rows that hold the 64-bit numbers of a file: a mark is a bit of the file
 pub marked-bytes : (s rows : List ℕ) (n : ℕ) → ((k : ℕ) → get_or s k 0 < 256) → ((i : ℕ) → i < 4 * n → get_or rows i 0 ≡ u64_at s (8 * i))
@@ -114,19 +104,11 @@ marked-bytes s rows n byte word v o h l =
     ∙ ap₂ (λ (x y : ℕ). bit (get_or s x 0) y) q r
 
 -- four words of a row are a row
-row_word : (rows : List ℕ) (v : ℕ) (a b c d : ℕ) → a ≡ get_or rows (word_at v 0) 0 → b ≡ get_or rows (word_at v 1) 0 → c ≡ get_or rows (word_at v 2) 0
-    → d ≡ get_or rows (word_at v 3) 0 → (j : ℕ) → j < 4 → get_or (a ∷ b ∷ c ∷ d ∷ []) (word_at 0 j) 0 ≡ get_or rows (word_at v j) 0
-row_word rows v a b c d ea eb ec ed zero h = ea
-row_word rows v a b c d ea eb ec ed (suc zero) h = eb
-row_word rows v a b c d ea eb ec ed (suc (suc zero)) h = ec
-row_word rows v a b c d ea eb ec ed (suc (suc (suc zero))) h = ed
-row_word rows v a b c d ea eb ec ed (suc (suc (suc (suc j)))) h = absurd (omega (arith, h))
-
-pub row_copied : (rows : List ℕ) (v : ℕ) (a b c d : ℕ) → a ≡ get_or rows (word_at v 0) 0 → b ≡ get_or rows (word_at v 1) 0 → c ≡ get_or rows (word_at v 2) 0
-    → d ≡ get_or rows (word_at v 3) 0 → Copied rows v (a ∷ b ∷ c ∷ d ∷ [])
+pub row_copied : (rows : List ℕ) (u : ℕ) (row : List ℕ) → row ≡ take 4 (drop (4 * u) rows) → Copied rows u row
 unfolding marked
-row_copied rows v a b c d ea eb ec ed o h =
-    ap (λ (x : ℕ). bit x (o % 64)) (row_word rows v a b c d ea eb ec ed (o / 64) (omega arith))
+row_copied rows u row e o h =
+    rw (e, zero-add)
+    (ap (λ (x : ℕ). bit x (o % 64)) (get_or-take 4 (drop (4 * u) rows) (o / 64) 0 (omega arith) ∙ get_or-drop (4 * u) rows (o / 64) 0))
 
 -- ---- a row with the marks of another
 

@@ -5,20 +5,12 @@
 ghost use Rattle.std.specs.Prelude.{◌≡◌, ◌/◌, ◌<◌, length, get_or, set};
 ghost use Rattle.marks.specs.Marks.{word_at, HasRow, marked, mark_if, words_share, word_inside, share, inside, Copied, join_word, Joined};
 
-// Where word w of row u stands.
-fn index_of(u: usize, w: usize) -> usize
-    requires { word_at u w < 18446744073709551616 }
-    ensures { result ≡ word_at u w }
-{
-    4 * u + w
-}
-
 // Word w of row u.
 pub fn word_at(rows: &[u64], u: usize, w: usize) -> u64
     requires { HasRow rows.now u × (w < 4) }
     ensures { result ≡ get_or rows.now (word_at u w) 0 }
 {
-    rows[index_of(u, w)]
+    rows[4 * u + w]
 }
 
 // Writes word w of row u.
@@ -26,8 +18,7 @@ pub fn set_word(rows: &mut [u64], u: usize, w: usize, x: u64)
     requires { HasRow rows.old u × (w < 4) }
     ensures { rows.new ≡ set rows.old (word_at u w) x }
 {
-    let at = index_of(u, w);
-    rows[at] = x;
+    rows[4 * u + w] = x;
 }
 
 // The mark of name v in row u.
@@ -35,20 +26,20 @@ pub fn is_marked(rows: &[u64], u: usize, v: usize) -> bool
     requires { word_at u (v / 64) < length rows.now }
     ensures { result ≡ marked rows.now u v }
 {
-    (rows[index_of(u, v / 64)] >> (v % 64)) % 2 == 1
+    (rows[4 * u + v / 64] >> (v % 64)) % 2 == 1
 }
 
-// Marks name v in row 0 where `on` is true.
+// Marks name v in row 0 where `on` is true: what a record's test answers, so that callers need no branch.
 pub fn mark_if(row: &mut [u64], on: bool, v: usize)
     requires { v / 64 < length row.old }
     ensures { row.new ≡ mark_if row.old on v }
 {
     if on {
-        row[v / 64] = row[v / 64] | (1 << (v % 64));
+        row[v / 64] |= 1 << (v % 64);
     }
 }
 
-// Word w of row u of one list and of row v of another: they have a bit in common.
+// Word w of row u of one list and of row v of another: they have a bit in common. This and the next differ in their test, and so in their laws.
 fn words_share(one: &[u64], u: usize, other: &[u64], v: usize, w: usize) -> bool
     requires { HasRow one.now u × HasRow other.now v × (w < 4) }
     ensures { result ≡ words_share one.now u other.now v w }
@@ -68,15 +59,16 @@ fn word_inside(one: &[u64], u: usize, other: &[u64], v: usize, w: usize) -> bool
     x & y == x
 }
 
-// Row u of one list and row v of the other have a mark in common.
+// Row u of one list and row v of the other have a mark in common. A loop here and below: `any` and `all` over the words were tried, their proof did not close.
 pub fn shares(one: &[u64], u: usize, other: &[u64], v: usize) -> bool
     requires { HasRow one.now u × HasRow other.now v }
     ensures { result ≡ share one.now u other.now v }
 {
-    words_share(one, u, other, v, 0)
-        | words_share(one, u, other, v, 1)
-        | words_share(one, u, other, v, 2)
-        | words_share(one, u, other, v, 3)
+    let mut found = false;
+    for w in 0..4 {
+        found |= words_share(one, u, other, v, w);
+    }
+    found
 }
 
 // Every mark of row u of one list is a mark of row v of the other.
@@ -84,10 +76,11 @@ pub fn contained(one: &[u64], u: usize, other: &[u64], v: usize) -> bool
     requires { HasRow one.now u × HasRow other.now v }
     ensures { result ≡ inside one.now u other.now v }
 {
-    word_inside(one, u, other, v, 0)
-        & word_inside(one, u, other, v, 1)
-        & word_inside(one, u, other, v, 2)
-        & word_inside(one, u, other, v, 3)
+    let mut inside = true;
+    for w in 0..4 {
+        inside &= word_inside(one, u, other, v, w);
+    }
+    inside
 }
 
 // Row u of one list has the marks of word w of row v of the other, beside its own.
@@ -105,12 +98,7 @@ fn row_at(rows: &[u64], u: usize) -> [u64; 4]
     requires { HasRow rows.now u }
     ensures { Copied rows.now u result }
 {
-    [
-        word_at(rows, u, 0),
-        word_at(rows, u, 1),
-        word_at(rows, u, 2),
-        word_at(rows, u, 3),
-    ]
+    *rows[4 * u..].first_chunk().unwrap()
 }
 
 // Row u of one list has the marks of row v of the other, beside its own. Row v is read before a word is written, so that a machine joins several words
@@ -120,9 +108,7 @@ pub fn join(one: &mut [u64], u: usize, other: &[u64], v: usize)
     ensures { Joined one.old one.new u other.now v }
 {
     let row = row_at(other, v);
-    let mut w: usize = 0;
-    while w < 4 {
+    for w in 0..4 {
         join_word(one, u, &row, 0, w);
-        w += 1;
     }
 }

@@ -2,7 +2,6 @@
 // the number of bits set. Thin: the library mends; what is here writes a file, so that `mended.pic` is a whole table or stays as it was.
 #![tactic(auto)]
 
-use handover::MendAnswer;
 use std::fs;
 use std::fs::{OpenFile, OpenOptions};
 use std::io::Write;
@@ -44,23 +43,21 @@ fn replace(rt: &impl Files, table: &[u8]) -> bool {
 
 // The line comes after the file.
 fn keep(rt: &(impl Files + Print), table: &[u8], bits: usize) {
-    if replace(rt, table) {
-        lines::print_mended(rt, bits);
+    let _ = if replace(rt, table) {
+        println!(rt; "mended {bits}")
     } else {
-        lines::print_text(rt, b"not written\n");
-    }
+        println!(rt; "not written")
+    };
 }
 
-// Buffers as judge has them, and one as long as the table's for the mended table.
 fn main(rt: HostRuntime) {
-    let mut array = [0u8; 17428];
-    let mut table = [0u8; 59520];
-    let mut mended = [0u8; 59520];
-    let m = lines::read_file(&rt, b"array.pis", &mut array);
-    let n = lines::read_file(&rt, b"table.pic", &mut table);
-    let answer = handover::mend(&array[..m], &table[..n], &mut mended);
-    match answer {
-        MendAnswer::Refused(r) => lines::print_refused(&rt, r),
-        MendAnswer::Mended(bits) => keep(&rt, &mended[..n], bits),
+    let mut array = [0u8; lines::ARRAY_ROOM];
+    let mut table = [0u8; lines::TABLE_ROOM];
+    let mut mended = [0u8; lines::TABLE_ROOM];
+    let array = lines::read_file(&rt, b"array.pis", &mut array);
+    let table = lines::read_file(&rt, b"table.pic", &mut table);
+    match handover::mend(array, table, &mut mended) {
+        Ok(bits) => keep(&rt, &mended[..table.len()], bits),
+        Err(refusal) => lines::print_refusal(&rt, refusal),
     }
 }

@@ -10,7 +10,7 @@ use lib.ListN.{length, get_or}
 use borrow.Author.Count.{below_more}
 use borrow.Author.Tests.{eqb-true, ltb-true, not-true, not-false}
 use Rattle.laws.proofs.Search.{decided, and_split, and-join, or_split, or_left, or_right, or-false, every-false}
-use Rattle.marks.specs.Marks.{marked, mark_if, inside, Joined}
+use Rattle.marks.specs.Marks.{marked, mark_if, inside}
 use Rattle.marks.proofs.Laws.{marked_more, mark_if-length, inside-marked, join-adds}
 use Rattle.model.specs.Mend.{Rows}
 use Rattle.records.specs.declared.Record.{Record}
@@ -107,9 +107,6 @@ module _ (rows names : List ℕ) (u : ℕ) (from : List ℕ) (v : ℕ) where
           let on : marked rows x o ≡ true = subst (λ (y : ℕ). marked rows y o ≡ true) (sym (eqb-true x u s.0)) (inside-marked from v rows u e o h s.1) in
           rw on
       same x o h (inr k) = rw k (sym (bools.or-false (marked rows x o)))
-
-  pub added-row : inside from v rows u ≡ false → (rows' : List ℕ) → Joined rows rows' u from v → Added rows names u from v rows' (mark_if names true u)
-  added-row e rows' j = record { joined = j; noted = rw e }
 
 module _ {rows names : List ℕ} {u : ℕ} {from : List ℕ} {v : ℕ} {rows' names' : List ℕ} (a : Added rows names u from v rows' names')
     (four : length names ≡ 4) (small : u < 256) where

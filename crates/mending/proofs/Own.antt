@@ -1,18 +1,15 @@
 -- Own marks, name after name.
 use Prim.Native.Nat.{ℕ, ◌+◌, ◌<◌}
-use mathlib.Core.Path.{◌≡◌, refl, ap, ◌∙◌}
+use mathlib.Core.Path.{◌≡◌, ap, ◌∙◌}
 use mathlib.Core.Bool.{Bool, ◌&&◌, ◌||◌, and_comm}
 use mathlib.Core.List.{List}
 use lib.Dec.{eqb, ltb}
 use lib.ListN.{replicate, length-replicate}
-use Rattle.laws.proofs.Search.{below-none-or, below_or}
+use Rattle.laws.proofs.Search.{below_or}
 use Rattle.marks.specs.Marks.{marked, mark_if, Joined}
 use Rattle.marks.proofs.Laws.{marked-none, marked_more}
 use Rattle.model.specs.Tree.{Array, is_new}
 use Rattle.mending.specs.Growing.{OwnMarked}
-
-pub own-none : (a : Array) (rows : List ℕ) → OwnMarked a 0 rows rows
-own-none a rows = record { size = refl; is = λ v o h. below-none-or (marked rows v o) v _ }
 
 -- the row that is joined
 own_row : (on : Bool) (v y : ℕ) → v < 256 → marked (mark_if (replicate 4 0) on v) 0 y ≡ on && eqb y v

@@ -15,7 +15,6 @@ use Rattle.marks.specs.Marks.{marked, inside}
 use Rattle.marks.proofs.Laws.{inside-marked, marked-inside}
 use Rattle.model.specs.Mend.{Rows}
 use Rattle.records.specs.declared.Record.{Record}
-use Rattle.records.specs.declared.Trailer.{Trailer}
 use Rattle.records.specs.Record.{node_of, record_of}
 use Rattle.records.specs.Kinds.{is_receiver}
 use Rattle.pairs.specs.declared.Side.{Side}
@@ -23,15 +22,15 @@ use Rattle.pairs.specs.Pairs.{Setting, Given, Held, figures_of, breaks_pair}
 use Rattle.arrays.proofs.Agents.{small-arity}
 use Rattle.pairs.proofs.Laws.{alive, agent-p, name-row, arg-row}
 use Rattle.pairs.proofs.Search.{side_at}
-use Rattle.senders.specs.Sets.{Family, sends_by, Covers, SentRows, Gathered}
+use Rattle.senders.specs.declared.Sets.{Sets}
+use Rattle.senders.specs.Sets.{family, sends_by, Covers, SentRows, Gathered}
 use Rattle.filter.specs.Filter.{may_come, arg_inside, figures_pass}
 use Rattle.filter.proofs.Laws.{far-set, whole_set}
-use Rattle.mending.specs.Growing.{Grew, set_clear, touches, Noted, Stale, LargeSets, SetNoted, AllNoted, NodeNoted, Swept}
+use Rattle.mending.specs.Growing.{Grew, set_clear, touches, Noted, Stale, SetNoted, AllNoted, NodeNoted, Swept}
 use Rattle.mending.proofs.Noting.{regrown, noted-grew, own-off, sent-off}
 
 -- what was gathered from the rows of now
-abbrev pub stale-now : {S : Setting} {names chosen : List ℕ} {F : Family} {links : List ℕ} → Gathered 3 S chosen F links
-    → Stale S.f S.t S.n S.rows S.loads S.bounds names chosen F links
+abbrev pub stale-now : {S : Setting} {names chosen : List ℕ} {s : Sets} → Gathered 3 S chosen (family s) s.links → Stale S names chosen s
 stale-now {S} k = record {
   old = S.rows;
   since = λ v o h off on. absurd (true≢false (sym on ∙ off));
@@ -39,32 +38,30 @@ stale-now {S} k = record {
 }
 
 -- and of rows that have grown since
-abbrev pub stale-grew : {C : Rows → Type 0} {f : List ℕ} {t : Trailer} {n : ℕ} {rows loads bounds names chosen : List ℕ} {F : Family}
-    {links rows' names' : List ℕ} → Stale f t n rows loads bounds names chosen F links → Grew C rows names rows' names'
-    → Stale f t n rows' loads bounds names' chosen F links
-stale-grew {rows = rows} k a = record {
+abbrev pub stale-grew : {C : Rows → Type 0} {S : Setting} {names chosen : List ℕ} {s : Sets} {rows' names' : List ℕ} → Stale S names chosen s
+    → Grew C S.rows names rows' names' → Stale (regrown S rows') names' chosen s
+stale-grew {S = S} k a = record {
   old = k.old;
   since = λ v o h off on.
-      elim (decided (marked rows v o)) [ inl e ↦ a.keeps v (k.since v o h off e) | inr e ↦ a.notes v o h e on ];
+      elim (decided (marked S.rows v o)) [ inl e ↦ a.keeps v (k.since v o h off e) | inr e ↦ a.notes v o h e on ];
   gathered = k.gathered;
 }
 
-module _ {S : Setting} (g : Given S) {p : Side} (hp : Held S p) (rp : is_receiver (node_of p.node) ≡ true) {names chosen : List ℕ} {F : Family}
-    {links : List ℕ} (k : Stale S.f S.t S.n S.rows S.loads S.bounds names chosen F links) {q : Side} (hq : Held S q)
-    (by : sends_by chosen q.node ≡ true) where
+module _ {S : Setting} (g : Given S) {p : Side} (hp : Held S p) (rp : is_receiver (node_of p.node) ≡ true) {names chosen : List ℕ} {s : Sets}
+    (k : Stale S names chosen s) {q : Side} (hq : Held S q) (by : sends_by chosen q.node ≡ true) where
   abbrev own : ℕ
   own = k.gathered.sets q.number
 
   -- a row that is not noted is contained in what contained it
-  kept : (v x : ℕ) → marked names 0 v ≡ false → inside k.old v F.unions x ≡ true → inside S.rows v F.unions x ≡ true
+  kept : (v x : ℕ) → marked names 0 v ≡ false → inside k.old v s.unions x ≡ true → inside S.rows v s.unions x ≡ true
   kept v x off e =
-      marked-inside S.rows v F.unions x (λ o h on.
+      marked-inside S.rows v s.unions x (λ o h on.
       elim (decided (marked k.old v o)) [
-        | inl was ↦ inside-marked k.old v F.unions x e o h was
+        | inl was ↦ inside-marked k.old v s.unions x e o h was
         | inr was ↦ absurd (true≢false (sym (k.since v o h was on) ∙ off))
       ])
 
-  covers-now : touches names p q ≡ false → Covers 3 S F own q
+  covers-now : touches names p q ≡ false → Covers 3 S (family s) own q
   covers-now off =
       let c = k.gathered.collected.covers q hq by hq.below in
       record {
@@ -78,18 +75,18 @@ module _ {S : Setting} (g : Given S) {p : Side} (hp : Held S p) (rp : is_receive
   unless f e = elim (decided (touches names p q)) [ inl on ↦ on | inr off ↦ absurd (true≢false (sym e ∙ f off)) ]
 
   -- no sender of the set may come
-  far-noted : may_come F.unions F.arities S.rows own p ≡ false → Noted S names p q
-  far-noted e = unless (λ off. far-set 3 g hp rp F own q hq (and_split _ _ by).0 (covers-now off) e)
+  far-noted : may_come s.unions s.arities S.rows own p ≡ false → Noted S names p q
+  far-noted e = unless (λ off. far-set 3 g hp rp (family s) own q hq (and_split _ _ by).0 (covers-now off) e)
 
   -- all that the set sends is contained
-  whole-noted : figures_pass 3 S.n F.needs F.unions S.rows S.loads own p ≡ true → Noted S names p q
-  whole-noted e = unless (λ off. whole_set 3 g hp rp F own q hq (and_split _ _ by).0 (covers-now off) e)
+  whole-noted : figures_pass 3 S.n s.needs s.unions S.rows S.loads own p ≡ true → Noted S names p q
+  whole-noted e = unless (λ off. whole_set 3 g hp rp (family s) own q hq (and_split _ _ by).0 (covers-now off) e)
 
   -- either of the two
-  pub clear-noted : set_clear F.unions F.arities S.rows p own ≡ true → Noted S names p q
+  pub clear-noted : set_clear s.unions s.arities S.rows p own ≡ true → Noted S names p q
   clear-noted e =
-      let inside = every p.node.arity (arg_inside F.unions S.rows own p.node.args) in
-      elim (or_split (not (may_come F.unions F.arities S.rows own p)) inside e) [
+      let inside = every p.node.arity (arg_inside s.unions S.rows own p.node.args) in
+      elim (or_split (not (may_come s.unions s.arities S.rows own p)) inside e) [
         | inl k ↦ far-noted (not-true _ k)
         | inr k ↦ whole-noted k
       ]
@@ -127,12 +124,6 @@ node-noted S names chosen reach on i r is f p hp e rp there =
     subst (λ (x : Side). AllNoted S names chosen x) (λ z. record { number = sym e z; node = same z })
     (f (ap (λ (x : Record). is_receiver (node_of x)) same ∙ rp) (ap (λ (x : Record). marked reach 0 x.name) same ∙ there))
 
--- sets by arity, of rows that have grown since
-abbrev pub large-grew : {C : Rows → Type 0} {f : List ℕ} {t : Trailer} {n : ℕ} {rows loads bounds names chosen unions arities rows' names' : List ℕ}
-    → LargeSets f t n rows loads bounds names chosen unions arities → Grew C rows names rows' names'
-    → LargeSets f t n rows' loads bounds names' chosen unions arities
-large-grew k a = (k.0, k.1, stale-grew k.2 a)
-
 -- what is asked of a receiver's record
 pub channel-there : {S : Setting} → Given S → {p : Side} → Held S p → is_receiver (node_of p.node) ≡ true
     → (p.node.name < 256) × SentRows S.rows p.node
@@ -142,13 +133,13 @@ channel-there g hp rp =
     (omega (arith, x, g.lists.many_rows), record { few = small-arity g.read hp; args = arg-row g hp agent })
 
 -- a receiver that is out of reach, or whose large sets are clear
-pub clear-node : {S : Setting} → Given S → {p : Side} → Held S p → (names chosen reach : List ℕ) (on : Bool) (unions arities : List ℕ)
-    → LargeSets S.f S.t S.n S.rows S.loads S.bounds names chosen unions arities
-    → (marked reach 0 p.node.name ≡ on → every 12 (set_clear unions arities S.rows p) ≡ true) → NodeNoted S names chosen reach on p.number
-clear-node {S} g {p} hp names chosen reach on unions arities large clear =
-    let k = large.2 in
-    node-noted S names chosen reach on p.number p.node hp.is (λ rp there q hq by.
-    clear-noted g hp rp k hq by (every_true 12 _ (clear there) (k.gathered.sets q.number) (k.gathered.few q.number)))
+pub clear-node : {S : Setting} → Given S → {p : Side} → Held S p → (i : ℕ) → p.number ≡ i → (names chosen reach : List ℕ) (on : Bool) {s : Sets}
+    → Stale S names chosen s → (marked reach 0 p.node.name ≡ on → every 12 (set_clear s.unions s.arities S.rows p) ≡ true)
+    → NodeNoted S names chosen reach on i
+clear-node {S} g {p} hp i e names chosen reach on k clear =
+    subst (λ (j : ℕ). NodeNoted S names chosen reach on j) e
+    (node-noted S names chosen reach on p.number p.node hp.is (λ rp there q hq by.
+    clear-noted g hp rp k hq by (every_true 12 _ (clear there) (k.gathered.sets q.number) (k.gathered.few q.number))))
 
 -- one without figures
 pub idle-node : (S : Setting) {p : Side} → Held S p → (names chosen reach : List ℕ) (on : Bool) → figures_of 3 S.n p.node ≡ 0

@@ -6,13 +6,13 @@ use Rattle.model.specs.Tree.{Array, is_new}
 use Rattle.model.specs.Rules.{Rule3}
 use Rattle.model.specs.Mend.{Rows, with_rows}
 use Rattle.records.specs.declared.Record.{Record}
-use Rattle.records.specs.declared.Trailer.{Trailer}
 use Rattle.records.specs.Record.{node_of}
 use Rattle.records.specs.Kinds.{is_receiver}
 use Rattle.pairs.specs.declared.Side.{Side}
 use Rattle.loads.specs.Loads.{load_in}
 use Rattle.pairs.specs.Pairs.{Setting, setting, Held, array_in, table_in, live_pair, breaks_pair}
-use Rattle.senders.specs.Sets.{Family, family, sends_marked, sends_by, Gathered}
+use Rattle.senders.specs.declared.Sets.{Sets}
+use Rattle.senders.specs.Sets.{family, sends_marked, sends_by, Gathered}
 use Rattle.filter.specs.Filter.{may_come, arg_inside}
 
 -- ---- rows that grow
@@ -110,15 +110,10 @@ abbrev pub Noted : Setting → List ℕ → Side → Side → Type 0
 Noted S names p q = breaks_pair 3 S p q ≡ true → touches names p q ≡ true
 
 -- the sets were gathered from rows that differ from these in rows of noted names alone
-pub record Stale (f : List ℕ) (t : Trailer) (n : ℕ) (rows loads bounds names chosen : List ℕ) (F : Family) (links : List ℕ) : Type 0 where
+pub record Stale (S : Setting) (names chosen : List ℕ) (s : Sets) : Type 0 where
   pub old : List ℕ
-  pub since : (v o : ℕ) → o < 256 → marked old v o ≡ false → marked rows v o ≡ true → marked names 0 v ≡ true
-  pub gathered : Gathered 3 (setting f t n old loads bounds) chosen F links
-
--- the same of sets that only keep what is sent and how: some list of needs and some links belong to them
-abbrev pub LargeSets : List ℕ → Trailer → ℕ → List ℕ → List ℕ → List ℕ → List ℕ → List ℕ → List ℕ → List ℕ → Type 0
-LargeSets f t n rows loads bounds names chosen unions arities =
-    (needs : List ℕ) × (links : List ℕ) × Stale f t n rows loads bounds names chosen (family needs unions arities) links
+  pub since : (v o : ℕ) → o < 256 → marked old v o ≡ false → marked S.rows v o ≡ true → marked names 0 v ≡ true
+  pub gathered : Gathered 3 (setting S.f S.t S.n old S.loads S.bounds) chosen (family s) s.links
 
 -- no sender of set g may come to receiver p, or all that the set sends is contained
 abbrev pub set_clear : List ℕ → List ℕ → List ℕ → Side → ℕ → Bool

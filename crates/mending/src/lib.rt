@@ -1,798 +1,500 @@
 // The mended rows of a table, and its file. Passes over pairs set what rule 3 asks for, until no row changes; a pass looks only at pairs that use a
 // name whose row changed in the pass before. Sets of senders are asked before single ones, and what one receiver is sent goes to all that hear it.
 // Promises the rows that the model's rounds find, written with their word sum, and the number of bits set. Depends on lists (loads, bounds), flows
-// (rows, also as bytes), filter and senders (sets of senders), pairs, frees (the names that news open), layout, loads, arrays, records, marks, wire, model and
-// laws. The lists take 106,600 bytes of stack, those of a sweep 10,200.
+// (rows, also as bytes), filter and senders (sets of senders), pairs, frees (the names that news open), layout, loads, arrays, records, marks, model and
+// laws. The lists take 106,600 bytes of stack, those of a sweep 13,500.
 #![tactic(auto)]
 
-ghost use Rattle.std.specs.Prelude.{◌≡◌, true, List, ℕ, ◌<◌, ◌≤◌, length, replicate};
+ghost use Rattle.std.specs.Prelude.{◌≡◌, ◌↔◌, IsTrue, MatchOption, true, List, ℕ, ◌<◌, ◌≤◌, length, replicate};
 ghost use Rattle.laws.specs.Search.{every};
 ghost use Rattle.laws.specs.Lists.{put};
-ghost use Rattle.marks.specs.Marks.{HasRow, marked};
+ghost use Rattle.marks.specs.Marks.{marked};
 ghost use Rattle.model.specs.Tree.{is_agent};
 ghost use Rattle.model.specs.Mend.{mended, bits_set};
-ghost use Rattle.records.specs.Record.{node_of, record_of, array_of, RecordsFit};
+ghost use Rattle.records.specs.Record.{node_of};
+ghost use Rattle.records.specs.ArrayFile.{array_in};
 ghost use Rattle.records.specs.Kinds.{is_receiver};
 ghost use Rattle.arrays.specs.File.{IsRead};
 ghost use Rattle.arrays.specs.Agents.{Reads};
-ghost use Rattle.layout.specs.Table.{table_of, IsTable};
+ghost use Rattle.layout.specs.Table.{IsTable};
+ghost use Rattle.layout.specs.TableFile.{table_in};
 ghost use Rattle.flows.specs.Written.{rewritten};
-ghost use Rattle.pairs.specs.Pairs.{setting, Given, HalfRow, live_by, Rooms, NameRow};
-ghost use Rattle.senders.specs.Sets.{family, SentRows, Member, Linked};
-ghost use Rattle.filter.specs.Filter.{ArgRows};
+ghost use Rattle.pairs.specs.Pairs.{HalfRow, figures_of, live_by, Rooms, NameRow};
+ghost use Rattle.pairs.specs.Weighing.{beside};
+ghost use Rattle.senders.specs.Sets.{SentRows, Vacant, Member, Linked};
 ghost use Rattle.mending.specs.Growing.{Grew, Added, SentIf, sent_at, has_at, Takes, Gained, Only, Sends, no_heavier, Hears, RuleThree, Noted, Stale};
-ghost use Rattle.mending.specs.Growing.{set_clear, LargeSets, SetNoted, AllNoted, NodeNoted, Swept, Clean, Finished, OwnMarked};
+ghost use Rattle.mending.specs.Growing.{set_clear, SetNoted, AllNoted, NodeNoted, Swept, Clean, Finished, OwnMarked};
+ghost use Rattle.mending.specs.Beside.{Receiver, LinksSenders, GrewBeside, side_of, left_from};
 
-use layout::Sizes;
-use pairs::Side;
-use records::{Record, Trailer};
+use layout::TableFile;
+use pairs::{PairRule, Side, Weighing};
+use records::{ArrayFile, Record};
+use senders::Sets;
+
+// How far a pass has come: the rows, and the names whose rows got a mark in it.
+#[derive(Drop)]
+struct Progress {
+    rows: [u64; 1024],
+    names: [u64; 4],
+}
+
+// The pairs that a sweep looks at: a receiver on a name that is marked in `reach` (or, where `on` is false, is not), and a sender that uses a name that is
+// marked in `chosen`.
+#[derive(Drop)]
+struct Scope {
+    chosen: [u64; 4],
+    reach: [u64; 4],
+    on: bool,
+}
 
 // Row u gets the marks of row v of what is sent; where one is new, name u is noted.
-fn add_row(rows: &mut [u64], names: &mut [u64], u: usize, sent: &[u64], v: usize)
-    requires { (length rows.old ≡ 1024) × (length names.old ≡ 4) × (length sent.now ≡ 32) × (u < 256) × (v < 8) }
-    ensures { Added rows.old names.old u sent.now v rows.new names.new }
+fn add_row(so_far: &mut Progress, u: usize, sent: &[u64; 32], v: usize)
+    requires { (u < 256) × (v < 8) }
+    ensures { Added so_far.old.rows so_far.old.names u sent.now v so_far.new.rows so_far.new.names }
 {
-    if marks::contained(sent, v, rows, u) {
+    if marks::contained(sent, v, &so_far.rows, u) {
         return;
     }
-    marks::join(rows, u, sent, v);
-    marks::mark_if(names, true, u);
+    marks::join(&mut so_far.rows, u, sent, v);
+    marks::mark_if(&mut so_far.names, true, u);
 }
 
 // Each parameter's row gets the marks of what is sent as its argument.
-fn add_args(rows: &mut [u64], names: &mut [u64], sent: &[u64], p: Record)
-    requires { (length rows.old ≡ 1024) × (length names.old ≡ 4) × (length sent.now ≡ 32) × (p.arity ≤ 8) }
-    ensures grew { Grew (Takes p.arity p.args sent.now) rows.old names.old rows.new
-        names.new }
-    ensures takes { Takes p.arity p.args sent.now (marked rows.new) }
+fn add_args(so_far: &mut Progress, sent: &[u64; 32], p: Record)
+    requires { p.arity ≤ 8 }
+    ensures grew { Grew (Takes p.arity p.args sent.now) so_far.old.rows so_far.old.names so_far.new.rows so_far.new.names }
+    ensures takes { Takes p.arity p.args sent.now (marked so_far.new.rows) }
 {
-    let bound = p.args;
-    let arity = p.arity;
-    let mut n: usize = 0;
-    while n < arity {
-        add_row(rows, names, wire::byte_index(bound[n]), sent, n);
-        n += 1;
+    for n in 0..p.arity {
+        add_row(so_far, usize::from(p.args[n]), sent, n);
     }
 }
 
 // What is sent gets the rows of q's arguments: what a sender sends, or a receiver's parameters.
-fn join_args(sent: &mut [u64], rows: &[u64], file: &[u8], t: Trailer, q: Side)
-    requires { (length sent.old ≡ 32) × SentRows rows.now q.node × RecordsFit file.now t × Reads file.now t q.number q.node }
+fn join_args(sent: &mut [u64; 32], rows: &[u64; 1024], array: &ArrayFile, q: Side)
+    requires { SentRows rows.now q.node × Reads array.now.bytes.now array.now.trailer q.number q.node }
     ensures { SentIf true rows.now q.node sent.old sent.new }
 {
-    let own = q.number;
-    let arity = q.node.arity;
-    let mut m: usize = 0;
-    while m < arity {
-        marks::join(sent, m, rows, records::arg_at(file, t, own, m));
-        m += 1;
+    for m in 0..q.node.arity {
+        marks::join(sent, m, rows, array.arg_at(q.number, m));
     }
 }
 
 // All that q sends is there already.
-fn sent_already(sent: &[u64], rows: &[u64], file: &[u8], t: Trailer, q: Side) -> bool
-    requires { (length sent.now ≡ 32) × SentRows rows.now q.node × RecordsFit file.now t × Reads file.now t q.number q.node }
-    ensures { result ≡ every q.node.arity (sent_at rows.now q.node sent.now) }
+fn sent_already(sent: &[u64; 32], rows: &[u64; 1024], array: &ArrayFile, q: Side) -> bool
+    requires { SentRows rows.now q.node × Reads array.now.bytes.now array.now.trailer q.number q.node }
+    ensures { IsTrue result ↔ ((m : ℕ) → m < q.node.arity → sent_at rows.now q.node sent.now m ≡ true) }
 {
-    let own = q.number;
-    let arity = q.node.arity;
-    let mut m: usize = 0;
-    while m < arity {
-        if !marks::contained(rows, records::arg_at(file, t, own, m), sent, m) {
-            return false;
-        }
-        m += 1;
-    }
-    true
+    (0..q.node.arity).all(|m| marks::contained(rows, array.arg_at(q.number, m), sent, m))
 }
 
 // What is sent gets the rows of what sender q sends, where p and q are a live pair. Whether it is there already is asked first: a name may hold nothing yet.
 fn join_pair(
-    sent: &mut [u64],
-    rows: &[u64],
-    file: &[u8],
-    t: Trailer,
-    balances: usize,
-    loads: &[u32],
-    rooms: &[u32],
+    sent: &mut [u64; 32],
+    rows: &[u64; 1024],
+    w: &Weighing,
+    rooms: &[u32; 24],
     p: Side,
     q: Side,
 )
-    requires sent_len { (length sent.old ≡ 32) × SentRows rows.now q.node × RecordsFit file.now t × Reads file.now t q.number q.node }
-    requires rooms { Rooms balances loads.now rooms.now q.number × (is_agent (node_of p.node) ≡ true) × NameRow rows.now p × NameRow rows.now q }
-    ensures { SentIf (live_by rows.now loads.now rooms.now balances p q) rows.now q.node
-        sent.old sent.new }
+    requires sent_rows { SentRows rows.now q.node × Reads w.now.array.bytes.now w.now.array.trailer q.number q.node }
+    requires rooms { Rooms w.now.balances w.now.loads.now rooms.now q.number × (is_agent (node_of p.node) ≡ true) × NameRow rows.now p × NameRow rows.now q }
+    ensures { SentIf (live_by rows.now w.now.loads.now rooms.now w.now.balances p q) rows.now q.node sent.old sent.new }
 {
-    if sent_already(sent, rows, file, t, q) {
+    if sent_already(sent, rows, &w.array, q) {
         return;
     }
     if !pairs::meet(rows, p, q) {
         return;
     }
-    if pairs::fits_beside(balances, loads, rooms, q.number) {
-        join_args(sent, rows, file, t, q);
+    if pairs::fits_beside(w.balances, w.loads, rooms, q.number) {
+        join_args(sent, rows, &w.array, q);
     }
 }
 
 // What is sent gets the rows of what the senders send that the links of set g pass and that are a live pair with p. Of p's differences rule 3 asks for
 // the rooms alone.
 fn join_members(
-    sent: &mut [u64],
-    rows: &[u64],
-    file: &[u8],
-    t: Trailer,
-    balances: usize,
-    loads: &[u32],
-    bounds: &[u32],
-    links: &[u16],
+    sent: &mut [u64; 32],
+    rows: &[u64; 1024],
+    w: &Weighing,
+    sets: &Sets,
     g: usize,
     p: Side,
 )
-    requires given { Given (setting file.now t balances rows.now loads.now bounds.now) × (length sent.old ≡ 32) × (g < 12) }
-    requires reads { Reads file.now t p.number p.node × (is_receiver (node_of p.node) ≡ true) }
-    requires by_index { (chosen : List ℕ) × (sets : ℕ → ℕ) × Linked file.now t chosen sets links.now }
-    ensures gained { Gained (setting file.now t balances rows.now loads.now bounds.now) p
-        sent.old sent.new }
-    ensures by_index_2 { (chosen : List ℕ) (sets : ℕ → ℕ) → Linked file.now t chosen sets links.now
-        → (j : ℕ) → Member file.now t chosen sets g j
-        → Sends (setting file.now t balances rows.now loads.now bounds.now) p sent.new
-        record { number = j; node = record_of file.now t j } }
+    requires receiver { Receiver w.now p × (g < 12) }
+    requires links { LinksSenders w.now sets.now.links }
+    ensures gained { Gained (beside w.now rows.now) p sent.old sent.new }
+    ensures sends { (chosen : List ℕ) (sets' : ℕ → ℕ) → Linked w.now.array.bytes.now w.now.array.trailer chosen sets' sets.now.links
+        → (j : ℕ) → Member w.now.array.bytes.now w.now.array.trailer chosen sets' g j
+        → Sends (beside w.now rows.now) p sent.new (side_of w.now j) }
 {
-    let mut gives = [0u32; 24];
-    let mut rooms = [0u32; 24];
-    pairs::differences(&mut gives, &mut rooms, balances, loads, bounds, p);
-    let mut next = wire::number_index(links[senders::last_link(g)]);
+    let margins = pairs::differences(w.balances, w.loads, w.bounds, p);
+    // Links lead from node to node, so that no range goes over them.
+    let mut next = usize::from(sets.links[senders::last_link(g)]);
     while 0 < next {
         let j = next - 1;
         let q = Side {
             number: j,
-            node: records::node_at(file, t, j),
+            node: w.array.node_at(j),
         };
-        join_pair(sent, rows, file, t, balances, loads, &rooms, p, q);
-        next = wire::number_index(links[j]);
+        join_pair(sent, rows, w, &margins.rooms, p, q);
+        next = usize::from(sets.links[j]);
     }
 }
 
 // The pairs of p and the senders that the links of set g pass. What those of live pairs send is joined to what the parameters have, and then added to their
 // rows.
-fn mend_members(
-    rows: &mut [u64],
-    names: &mut [u64],
-    file: &[u8],
-    t: Trailer,
-    balances: usize,
-    loads: &[u32],
-    bounds: &[u32],
-    links: &[u16],
-    g: usize,
-    p: Side,
-)
-    requires given { Given (setting file.now t balances rows.old loads.now bounds.now) × (length names.old ≡ 4) × (g < 12) }
-    requires reads { Reads file.now t p.number p.node × (is_receiver (node_of p.node) ≡ true) }
-    requires by_index { (chosen : List ℕ) × (sets : ℕ → ℕ) × Linked file.now t chosen sets links.now }
-    ensures grew { Grew (RuleThree (setting file.now t balances rows.old loads.now bounds.now))
-        rows.old names.old rows.new names.new }
-    ensures by_index_2 { (chosen : List ℕ) (sets : ℕ → ℕ) → Linked file.now t chosen sets links.now
-        → (j : ℕ) → Member file.now t chosen sets g j
-        → Noted (setting file.now t balances rows.new loads.now bounds.now) names.new p
-        record { number = j; node = record_of file.now t j } }
+fn mend_members(so_far: &mut Progress, w: &Weighing, sets: &Sets, g: usize, p: Side)
+    requires receiver { Receiver w.now p × (g < 12) }
+    requires links { LinksSenders w.now sets.now.links }
+    ensures grew { GrewBeside w.now so_far.old so_far.new }
+    ensures noted { (chosen : List ℕ) (sets' : ℕ → ℕ) → Linked w.now.array.bytes.now w.now.array.trailer chosen sets' sets.now.links
+        → (j : ℕ) → Member w.now.array.bytes.now w.now.array.trailer chosen sets' g j
+        → Noted (beside w.now so_far.new.rows) so_far.new.names p (side_of w.now j) }
 {
     let mut sent = [0u64; 32];
-    join_args(&mut sent, rows, file, t, p);
-    join_members(
-        &mut sent, rows, file, t, balances, loads, bounds, links, g, p,
-    );
-    add_args(rows, names, &sent, p.node);
+    join_args(&mut sent, &so_far.rows, &w.array, p);
+    join_members(&mut sent, &so_far.rows, w, sets, g, p);
+    add_args(so_far, &sent, p.node);
 }
 
 // No sender of set g has to be looked at beside p: none may come, or all that the set sends is contained already.
-fn set_clear(unions: &[u64], arities: &[u64], rows: &[u64], g: usize, p: Side) -> bool
-    requires { (g < 12) × (p.node.arity ≤ 8) × (length arities.now ≡ 4) × HasRow unions.now g × HasRow rows.now p.node.name
-        × ArgRows unions.now rows.now g p.node }
-    ensures { result ≡ set_clear unions.now arities.now rows.now p g }
+fn set_clear(sets: &Sets, rows: &[u64; 1024], g: usize, p: Side) -> bool
+    requires { (g < 12) × (p.node.name < 256) × SentRows rows.now p.node }
+    ensures { result ≡ set_clear sets.now.unions sets.now.arities rows.now p g }
 {
-    if !filter::may_come(unions, arities, rows, g, p) {
-        return true;
-    }
-    filter::args_inside(unions, rows, g, p.node)
+    !filter::may_come(&sets.unions, &sets.arities, rows, g, p)
+        || filter::args_inside(&sets.unions, rows, g, p.node)
 }
 
-// No sender of any set has to be looked at.
-fn sets_clear(unions: &[u64], arities: &[u64], rows: &[u64], p: Side) -> bool
-    requires { (p.node.arity ≤ 8) × (length arities.now ≡ 4) × (length unions.now ≡ 432) × HasRow rows.now p.node.name
-        × ((g : ℕ) → g < 12 → ArgRows unions.now rows.now g p.node) }
-    ensures { result ≡ every 12 (set_clear unions.now arities.now rows.now p) }
+// No sender of any set has to be looked at. A loop, since of `all` over a range of known length no proof was found.
+fn sets_clear(sets: &Sets, rows: &[u64; 1024], p: Side) -> bool
+    requires { (p.node.name < 256) × SentRows rows.now p.node }
+    ensures { result ≡ every 12 (set_clear sets.now.unions sets.now.arities rows.now p) }
 {
-    let mut n: usize = 0;
-    while n < 12 {
-        if !set_clear(unions, arities, rows, n, p) {
+    for n in 0..12 {
+        if !set_clear(sets, rows, n, p) {
             return false;
         }
-        n += 1;
     }
     true
 }
 
 // The pairs of p and the senders of set g, where they have to be looked at.
-fn mend_set(
-    rows: &mut [u64],
-    names: &mut [u64],
-    file: &[u8],
-    t: Trailer,
-    balances: usize,
-    loads: &[u32],
-    bounds: &[u32],
-    needs: &[u32],
-    unions: &[u64],
-    arities: &[u64],
-    links: &[u16],
-    g: usize,
-    p: Side,
-)
-    requires given { Given (setting file.now t balances rows.old loads.now bounds.now) × (length names.old ≡ 4) × (g < 12) }
-    requires reads { Reads file.now t p.number p.node × (is_receiver (node_of p.node) ≡ true) }
-    requires by_index { (chosen : List ℕ) × Stale file.now t balances rows.old loads.now bounds.now names.old chosen
-        (family needs.now unions.now arities.now) links.now }
-    ensures grew { Grew (RuleThree (setting file.now t balances rows.old loads.now bounds.now))
-        rows.old names.old rows.new names.new }
-    ensures by_index_2 { (chosen : List ℕ) (k : Stale file.now t balances rows.old loads.now bounds.now
-        names.old chosen (family needs.now unions.now arities.now) links.now)
-        → SetNoted (setting file.now t balances rows.new loads.now bounds.now) names.new chosen
-        k.gathered.sets p g }
+fn mend_set(so_far: &mut Progress, w: &Weighing, sets: &Sets, g: usize, p: Side)
+    requires receiver { Receiver w.now p × (g < 12) }
+    requires stale { (chosen : List ℕ) × Stale (beside w.now so_far.old.rows) so_far.old.names chosen sets.now }
+    ensures grew { GrewBeside w.now so_far.old so_far.new }
+    ensures noted { (chosen : List ℕ) (k : Stale (beside w.now so_far.old.rows) so_far.old.names chosen sets.now)
+        → SetNoted (beside w.now so_far.new.rows) so_far.new.names chosen k.gathered.sets p g }
 {
-    if set_clear(unions, arities, rows, g, p) {
+    if set_clear(sets, &so_far.rows, g, p) {
         return;
     }
-    mend_members(rows, names, file, t, balances, loads, bounds, links, g, p);
+    mend_members(so_far, w, sets, g, p);
 }
 
 // The pairs of p and all senders that were gathered.
-fn mend_receiver(
-    rows: &mut [u64],
-    names: &mut [u64],
-    file: &[u8],
-    t: Trailer,
-    balances: usize,
-    loads: &[u32],
-    bounds: &[u32],
-    needs: &[u32],
-    unions: &[u64],
-    arities: &[u64],
-    links: &[u16],
-    p: Side,
-)
-    requires given { Given (setting file.now t balances rows.old loads.now bounds.now) × (length names.old ≡ 4) }
-    requires reads { Reads file.now t p.number p.node × (is_receiver (node_of p.node) ≡ true) }
-    requires by_index { (chosen : List ℕ) × Stale file.now t balances rows.old loads.now bounds.now names.old chosen
-        (family needs.now unions.now arities.now) links.now }
-    ensures grew { Grew (RuleThree (setting file.now t balances rows.old loads.now bounds.now))
-        rows.old names.old rows.new names.new }
-    ensures by_index_2 { (chosen : List ℕ) → Stale file.now t balances rows.old loads.now bounds.now
-        names.old chosen (family needs.now unions.now arities.now) links.now
-        → AllNoted (setting file.now t balances rows.new loads.now bounds.now) names.new chosen p }
+fn mend_receiver(so_far: &mut Progress, w: &Weighing, sets: &Sets, p: Side)
+    requires receiver { Receiver w.now p }
+    requires stale { (chosen : List ℕ) × Stale (beside w.now so_far.old.rows) so_far.old.names chosen sets.now }
+    ensures grew { GrewBeside w.now so_far.old so_far.new }
+    ensures noted { (chosen : List ℕ) → Stale (beside w.now so_far.old.rows) so_far.old.names chosen sets.now
+        → AllNoted (beside w.now so_far.new.rows) so_far.new.names chosen p }
 {
-    let mut g: usize = 0;
-    while g < 12 {
-        mend_set(
-            rows, names, file, t, balances, loads, bounds, needs, unions, arities, links, g, p,
-        );
-        g += 1;
+    for g in 0..12 {
+        mend_set(so_far, w, sets, g, p);
     }
 }
 
 // ---- receivers alike
 
 // What is sent gets the rows of what all senders send that were gathered and that are a live pair with p.
-fn join_all(
-    sent: &mut [u64],
-    rows: &[u64],
-    file: &[u8],
-    t: Trailer,
-    balances: usize,
-    loads: &[u32],
-    bounds: &[u32],
-    links: &[u16],
-    p: Side,
-)
-    requires given { Given (setting file.now t balances rows.now loads.now bounds.now) × (length sent.old ≡ 32) }
-    requires reads { Reads file.now t p.number p.node × (is_receiver (node_of p.node) ≡ true) }
-    requires by_index { (chosen : List ℕ) × (sets : ℕ → ℕ) × Linked file.now t chosen sets links.now }
-    ensures { Gained (setting file.now t balances rows.now loads.now bounds.now) p
-        sent.old sent.new }
+fn join_all(sent: &mut [u64; 32], rows: &[u64; 1024], w: &Weighing, sets: &Sets, p: Side)
+    requires receiver { Receiver w.now p }
+    requires links { LinksSenders w.now sets.now.links }
+    ensures { Gained (beside w.now rows.now) p sent.old sent.new }
 {
-    let mut n: usize = 0;
-    while n < 12 {
-        join_members(sent, rows, file, t, balances, loads, bounds, links, n, p);
-        n += 1;
+    for set in 0..12 {
+        join_members(sent, rows, w, sets, set, p);
     }
 }
 
 // The rows of r's parameters have all that is sent.
-fn has_all(rows: &[u64], sent: &[u64], r: Record) -> bool
-    requires { (length sent.now ≡ 32) × SentRows rows.now r }
-    ensures { result ≡ every r.arity (has_at rows.now r sent.now) }
+fn has_all(rows: &[u64; 1024], sent: &[u64; 32], r: Record) -> bool
+    requires { SentRows rows.now r }
+    ensures { IsTrue result ↔ ((m : ℕ) → m < r.arity → has_at rows.now r sent.now m ≡ true) }
 {
-    let bound = r.args;
-    let arity = r.arity;
-    let mut m: usize = 0;
-    while m < arity {
-        if !marks::contained(sent, m, rows, wire::byte_index(bound[m])) {
-            return false;
-        }
-        m += 1;
-    }
-    true
+    (0..r.arity).all(|m| marks::contained(sent, m, rows, usize::from(r.args[m])))
 }
 
-// Node j weighs no more than node i.
-fn no_heavier(balances: usize, loads: &[u32], i: usize, j: usize) -> bool
-    requires { HalfRow loads.now balances i × HalfRow loads.now balances j }
-    ensures { result ≡ every balances (no_heavier loads.now i j) }
+// Node j weighs no more than node i. The loop has no way out, so that several balances are compared at once.
+fn no_heavier(w: &Weighing, i: usize, j: usize) -> bool
+    requires { HalfRow w.now.loads.now w.now.balances i × HalfRow w.now.loads.now w.now.balances j }
+    ensures { result ≡ every w.now.balances (no_heavier w.now.loads.now i j) }
 {
     let mut light = true;
-    let mut k: usize = 0;
-    while k < balances {
-        let own = loads::load_at(loads, i, k);
-        let other = loads::load_at(loads, j, k);
-        light = light & !loads::less(own, other);
-        k += 1;
+    for k in 0..w.balances {
+        let own = loads::load_at(w.loads, i, k);
+        let other = loads::load_at(w.loads, j, k);
+        light &= !loads::less(own, other);
     }
     light
 }
 
 // r receives what p does: what is live beside p is live beside r.
-fn hears(rows: &[u64], balances: usize, loads: &[u32], p: Side, r: Side) -> bool
-    requires has_row { HasRow rows.now p.node.name × (is_receiver (node_of r.node) ≡ true → HasRow rows.now r.node.name) }
-    requires half_row { HalfRow loads.now balances p.number × HalfRow loads.now balances r.number }
-    ensures { result ≡ true → Hears rows.now loads.now balances p r }
+fn hears(rows: &[u64; 1024], w: &Weighing, p: Side, r: Side) -> bool
+    requires { Receiver w.now p × Reads w.now.array.bytes.now w.now.array.trailer r.number r.node }
+    ensures { result ≡ true → Hears rows.now w.now.loads.now w.now.balances p r }
 {
-    if !records::receives(r.node) {
-        return false;
-    }
-    if r.node.arity != p.node.arity {
-        return false;
-    }
-    if !marks::contained(rows, p.node.name, rows, r.node.name) {
-        return false;
-    }
-    no_heavier(balances, loads, p.number, r.number)
+    records::receives(r.node)
+        && r.node.arity == p.node.arity
+        && marks::contained(rows, p.node.name, rows, r.node.name)
+        && no_heavier(w, p.number, r.number)
 }
 
 // What live senders send to p is added to the rows of r's parameters, where r hears what p does.
-fn send_on(
-    rows: &mut [u64],
-    names: &mut [u64],
-    sent: &[u64],
-    balances: usize,
-    loads: &[u32],
-    p: Side,
-    r: Side,
-)
-    requires rows_len { (length rows.old ≡ 1024) × (length names.old ≡ 4) × (length sent.now ≡ 32) × (r.node.arity ≤ 8) }
-    requires has_row { HasRow rows.old p.node.name × (is_receiver (node_of r.node) ≡ true → HasRow rows.old r.node.name) }
-    requires half_row { HalfRow loads.now balances p.number × HalfRow loads.now balances r.number }
-    ensures { (f : List ℕ) (t : Trailer) (bounds : List ℕ) → Given (setting f t balances rows.old loads.now bounds)
-        → Reads f t r.number r.node → Only (setting f t balances rows.old loads.now bounds) p sent.now
-        → Grew (RuleThree (setting f t balances rows.old loads.now bounds))
-        rows.old names.old rows.new names.new }
+fn send_on(so_far: &mut Progress, sent: &[u64; 32], w: &Weighing, p: Side, r: Side)
+    requires receiver { Receiver w.now p × Reads w.now.array.bytes.now w.now.array.trailer r.number r.node }
+    requires only { Only (beside w.now so_far.old.rows) p sent.now }
+    ensures { GrewBeside w.now so_far.old so_far.new }
 {
-    if !hears(rows, balances, loads, p, r) {
-        return;
+    if hears(&so_far.rows, w, p, r) {
+        add_args(so_far, sent, r.node);
     }
-    add_args(rows, names, sent, r.node);
 }
 
 // What live senders send to p goes to every receiver from p on that hears what p does.
-fn spread(
-    rows: &mut [u64],
-    names: &mut [u64],
-    sent: &[u64],
-    file: &[u8],
-    t: Trailer,
-    balances: usize,
-    loads: &[u32],
-    p: Side,
-)
-    requires by_index { ((bounds : List ℕ) × Given (setting file.now t balances rows.old loads.now bounds)) × (length names.old ≡ 4)
-        × (length sent.now ≡ 32) }
-    requires reads { Reads file.now t p.number p.node × (is_receiver (node_of p.node) ≡ true) }
-    ensures { (bounds : List ℕ) → Given (setting file.now t balances rows.old loads.now bounds)
-        → Only (setting file.now t balances rows.old loads.now bounds) p sent.now
-        → Grew (RuleThree (setting file.now t balances rows.old loads.now bounds))
-        rows.old names.old rows.new names.new }
+fn spread(so_far: &mut Progress, sent: &[u64; 32], w: &Weighing, p: Side)
+    requires receiver { Receiver w.now p }
+    requires only { Only (beside w.now so_far.old.rows) p sent.now }
+    ensures { GrewBeside w.now so_far.old so_far.new }
 {
-    let mut i = p.number;
-    while i < t.nodes {
+    for i in p.number..w.array.trailer.nodes {
         let r = Side {
             number: i,
-            node: records::node_at(file, t, i),
+            node: w.array.node_at(i),
         };
-        send_on(rows, names, sent, balances, loads, p, r);
-        i += 1;
+        send_on(so_far, sent, w, p, r);
     }
 }
 
 // What live senders send to p goes to every receiver from p on that hears them too: where many receive alike, one look at each sender will do. Where p
 // lacks nothing of it, the nodes are not gone through.
-fn mend_alike(
-    rows: &mut [u64],
-    names: &mut [u64],
-    file: &[u8],
-    t: Trailer,
-    balances: usize,
-    loads: &[u32],
-    bounds: &[u32],
-    links: &[u16],
-    p: Side,
-)
-    requires given { Given (setting file.now t balances rows.old loads.now bounds.now) × (length names.old ≡ 4) }
-    requires reads { Reads file.now t p.number p.node × (is_receiver (node_of p.node) ≡ true) }
-    requires by_index { (chosen : List ℕ) × (sets : ℕ → ℕ) × Linked file.now t chosen sets links.now }
-    ensures { Grew (RuleThree (setting file.now t balances rows.old loads.now bounds.now))
-        rows.old names.old rows.new names.new }
+fn mend_alike(so_far: &mut Progress, w: &Weighing, sets: &Sets, p: Side)
+    requires receiver { Receiver w.now p }
+    requires links { LinksSenders w.now sets.now.links }
+    ensures { GrewBeside w.now so_far.old so_far.new }
 {
     let mut sent = [0u64; 32];
-    join_all(&mut sent, rows, file, t, balances, loads, bounds, links, p);
-    if has_all(rows, &sent, p.node) {
+    join_all(&mut sent, &so_far.rows, w, sets, p);
+    if has_all(&so_far.rows, &sent, p.node) {
         return;
     }
-    spread(rows, names, &sent, file, t, balances, loads, p);
+    spread(so_far, &sent, w, p);
 }
 
 // ---- nodes, by large sets and by small ones
 
-// Receiver p is on a name that is not marked in `reach` (or, where `on` is false, is marked), or no sender of a large set has to be looked at beside it.
-fn receiver_clear(
-    reach: &[u64],
-    on: bool,
-    rows: &[u64],
-    large: &[u64],
-    lengths: &[u64],
-    p: Side,
-) -> bool
-    requires reach_len { (length reach.now ≡ 4) × (length large.now ≡ 432) × (length lengths.now ≡ 4) × (length rows.now ≡ 1024) }
-    requires name_bound { (p.node.name < 256) × SentRows rows.now p.node }
-    ensures { result ≡ true → marked reach.now 0 p.node.name ≡ on
-        → every 12 (set_clear large.now lengths.now rows.now p) ≡ true }
+// Node i, where it is a receiver with parameters.
+fn receiver_at(w: &Weighing, i: usize) -> Option<Side>
+    requires { i < w.now.array.trailer.nodes }
+    ensures { MatchOption result (figures_of 3 w.now.balances (side_of w.now i).node ≡ 0) (λ p. Receiver w.now p × (p ≡ side_of w.now i)) }
 {
-    if marks::is_marked(reach, 0, p.node.name) != on {
-        return true;
+    let p = Side {
+        number: i,
+        node: w.array.node_at(i),
+    };
+    if pairs::figures(PairRule::Third, w.balances, p.node) == 0 {
+        return None;
     }
-    sets_clear(large, lengths, rows, p)
+    Some(p)
+}
+
+// Receiver p is out of the scope's reach, or no sender of a large set has to be looked at beside it.
+fn receiver_clear(scope: &Scope, rows: &[u64; 1024], large: &Sets, p: Side) -> bool
+    requires { (p.node.name < 256) × SentRows rows.now p.node }
+    ensures { result ≡ true → marked scope.now.reach 0 p.node.name ≡ scope.now.on
+        → every 12 (set_clear large.now.unions large.now.arities rows.now p) ≡ true }
+{
+    marks::is_marked(&scope.reach, 0, p.node.name) != scope.on || sets_clear(large, rows, p)
 }
 
 // Node i is clear, or is so once what its senders send went to all receivers alike.
-fn settled(
-    reach: &[u64],
-    on: bool,
-    rows: &mut [u64],
-    names: &mut [u64],
-    file: &[u8],
-    t: Trailer,
-    balances: usize,
-    loads: &[u32],
-    bounds: &[u32],
-    large: &[u64],
-    lengths: &[u64],
-    links: &[u16],
-    i: usize,
-) -> bool
-    requires given { Given (setting file.now t balances rows.old loads.now bounds.now) × (length names.old ≡ 4) × (length reach.now ≡ 4)
-        × (i < t.nodes) }
-    requires large_len { (length large.now ≡ 432) × (length lengths.now ≡ 4)
-        × ((chosen : List ℕ) × (sets : ℕ → ℕ) × Linked file.now t chosen sets links.now) }
-    ensures grew { Grew (RuleThree (setting file.now t balances rows.old loads.now bounds.now))
-        rows.old names.old rows.new names.new }
-    ensures node_noted { result ≡ true → (chosen : List ℕ)
-        → LargeSets file.now t balances rows.old loads.now bounds.now names.old chosen
-        large.now lengths.now
-        → NodeNoted (setting file.now t balances rows.new loads.now bounds.now) names.new chosen
-        reach.now on i }
+fn settled(scope: &Scope, so_far: &mut Progress, w: &Weighing, large: &Sets, i: usize) -> bool
+    requires { (i < w.now.array.trailer.nodes) × Stale (beside w.now so_far.old.rows) so_far.old.names scope.now.chosen large.now }
+    ensures grew { GrewBeside w.now so_far.old so_far.new }
+    ensures noted { result ≡ true
+        → NodeNoted (beside w.now so_far.new.rows) so_far.new.names scope.now.chosen scope.now.reach scope.now.on i }
 {
-    let p = Side {
-        number: i,
-        node: records::node_at(file, t, i),
+    let Some(p) = receiver_at(w, i) else {
+        return true;
     };
-    if pairs::figures(3, balances, p.node) == 0 {
+    if receiver_clear(scope, &so_far.rows, large, p) {
         return true;
     }
-    if receiver_clear(reach, on, rows, large, lengths, p) {
-        return true;
-    }
-    mend_alike(rows, names, file, t, balances, loads, bounds, links, p);
-    receiver_clear(reach, on, rows, large, lengths, p)
+    mend_alike(so_far, w, large, p);
+    receiver_clear(scope, &so_far.rows, large, p)
 }
 
-// The pairs of node i, where it receives on a name that is marked in `reach` (or, where `on` is false, is not), and all senders that were gathered: large
-// sets are asked before small ones.
+// The pairs of node i, where it receives in the scope's reach, and all senders that were gathered: large sets are asked before small ones.
 fn mend_node(
-    reach: &[u64],
-    on: bool,
-    rows: &mut [u64],
-    names: &mut [u64],
-    file: &[u8],
-    t: Trailer,
-    balances: usize,
-    loads: &[u32],
-    bounds: &[u32],
-    large: &[u64],
-    lengths: &[u64],
-    needs: &[u32],
-    unions: &[u64],
-    arities: &[u64],
-    links: &[u16],
+    scope: &Scope,
+    so_far: &mut Progress,
+    w: &Weighing,
+    large: &Sets,
+    small: &Sets,
     i: usize,
 )
-    requires given { Given (setting file.now t balances rows.old loads.now bounds.now) × (length names.old ≡ 4) × (length reach.now ≡ 4)
-        × (i < t.nodes) }
-    requires by_index { ((chosen : List ℕ) × Stale file.now t balances rows.old loads.now bounds.now names.old chosen
-        (family needs.now unions.now arities.now) links.now) × (length large.now ≡ 432) × (length lengths.now ≡ 4) }
-    ensures grew { Grew (RuleThree (setting file.now t balances rows.old loads.now bounds.now))
-        rows.old names.old rows.new names.new }
-    ensures by_index_2 { (chosen : List ℕ) → Stale file.now t balances rows.old loads.now bounds.now
-        names.old chosen (family needs.now unions.now arities.now) links.now
-        → LargeSets file.now t balances rows.old loads.now bounds.now names.old chosen
-        large.now lengths.now
-        → NodeNoted (setting file.now t balances rows.new loads.now bounds.now) names.new chosen
-        reach.now on i }
+    requires below { i < w.now.array.trailer.nodes }
+    requires large { Stale (beside w.now so_far.old.rows) so_far.old.names scope.now.chosen large.now }
+    requires small { Stale (beside w.now so_far.old.rows) so_far.old.names scope.now.chosen small.now }
+    ensures grew { GrewBeside w.now so_far.old so_far.new }
+    ensures noted { NodeNoted (beside w.now so_far.new.rows) so_far.new.names scope.now.chosen scope.now.reach scope.now.on i }
 {
-    let p = Side {
-        number: i,
-        node: records::node_at(file, t, i),
+    let Some(p) = receiver_at(w, i) else {
+        return;
     };
-    if pairs::figures(3, balances, p.node) == 0 {
+    if receiver_clear(scope, &so_far.rows, large, p) {
         return;
     }
-    if receiver_clear(reach, on, rows, large, lengths, p) {
-        return;
-    }
-    mend_receiver(
-        rows, names, file, t, balances, loads, bounds, needs, unions, arities, links, p,
-    );
+    mend_receiver(so_far, w, small, p);
 }
 
-// The pairs of a receiver on a name that is marked in `reach` (or, where `on` is false, is not) and a sender that uses a name that is marked in `chosen`,
-// by sets by arity, and by what one receiver is sent, up to the first node that these do not settle. Answers that node, or the number of nodes.
+// The scope's pairs, by sets by arity, and by what one receiver is sent, up to the first node that these do not settle. Answers that node.
 fn sweep_large(
-    chosen: &[u64],
-    reach: &[u64],
-    on: bool,
-    rows: &mut [u64],
-    names: &mut [u64],
-    file: &[u8],
-    t: Trailer,
-    balances: usize,
-    loads: &[u32],
-    bounds: &[u32],
-    large: &mut [u64],
-    lengths: &mut [u64],
-) -> usize
-    requires given { Given (setting file.now t balances rows.old loads.now bounds.now) × (length names.old ≡ 4) × (length reach.now ≡ 4)
-        × (length chosen.now ≡ 4) }
-    requires large_len { (length large.old ≡ 432) × (length lengths.old ≡ 4) }
-    ensures upper_bound { (result ≤ t.nodes) × Grew (RuleThree (setting file.now t balances rows.old loads.now bounds.now))
-        rows.old names.old rows.new names.new }
-    ensures swept { Swept (setting file.now t balances rows.new loads.now bounds.now) names.new
-        chosen.now reach.now on result }
-    ensures large_len_2 { (length large.new ≡ 432) × (length lengths.new ≡ 4)
-        × LargeSets file.now t balances rows.new loads.now bounds.now names.new chosen.now
-        large.new lengths.new }
+    scope: &Scope,
+    so_far: &mut Progress,
+    w: &Weighing,
+    large: &mut Sets,
+) -> Option<usize>
+    requires { Vacant large.old }
+    ensures grew { GrewBeside w.now so_far.old so_far.new }
+    ensures swept { Swept (beside w.now so_far.new.rows) so_far.new.names scope.now.chosen scope.now.reach scope.now.on
+        (left_from w.now.array.trailer.nodes result) }
+    ensures large { Stale (beside w.now so_far.new.rows) so_far.new.names scope.now.chosen large.new }
 {
-    let mut needs = [0u32; 288];
-    let mut links = [0u16; 1036];
-    senders::gather(
-        3, false, chosen, &mut needs, large, lengths, &mut links, file, t, balances, rows, loads,
-    );
-    let mut i: usize = 0;
-    while i < t.nodes {
-        if !settled(
-            reach, on, rows, names, file, t, balances, loads, bounds, large, lengths, &links, i,
-        ) {
-            return i;
+    large.gather(PairRule::Third, false, &scope.chosen, w, &so_far.rows);
+    for i in 0..w.array.trailer.nodes {
+        if !settled(scope, so_far, w, large, i) {
+            return Some(i);
         }
-        i += 1;
     }
-    i
+    None
 }
 
 // The same from node `from` on, by small sets and one by one, where large sets are not clear. Rule 3 asks for no needs; the sets have them for rule 4.
-fn sweep_small(
-    from: usize,
-    chosen: &[u64],
-    reach: &[u64],
-    on: bool,
-    rows: &mut [u64],
-    names: &mut [u64],
-    file: &[u8],
-    t: Trailer,
-    balances: usize,
-    loads: &[u32],
-    bounds: &[u32],
-    large: &[u64],
-    lengths: &[u64],
-)
-    requires given { Given (setting file.now t balances rows.old loads.now bounds.now) × (length names.old ≡ 4) × (length reach.now ≡ 4)
-        × (length chosen.now ≡ 4) }
-    requires from_le_nodes { (from ≤ t.nodes) × (length large.now ≡ 432) × (length lengths.now ≡ 4) }
-    requires large_sets { LargeSets file.now t balances rows.old loads.now bounds.now names.old chosen.now large.now lengths.now }
-    requires swept { Swept (setting file.now t balances rows.old loads.now bounds.now) names.old chosen.now reach.now on from }
-    ensures grew { Grew (RuleThree (setting file.now t balances rows.old loads.now bounds.now))
-        rows.old names.old rows.new names.new }
-    ensures swept_2 { Swept (setting file.now t balances rows.new loads.now bounds.now) names.new
-        chosen.now reach.now on t.nodes }
+fn sweep_small(from: usize, scope: &Scope, so_far: &mut Progress, w: &Weighing, large: &Sets)
+    requires large { Stale (beside w.now so_far.old.rows) so_far.old.names scope.now.chosen large.now }
+    requires swept { Swept (beside w.now so_far.old.rows) so_far.old.names scope.now.chosen scope.now.reach scope.now.on from }
+    ensures grew { GrewBeside w.now so_far.old so_far.new }
+    ensures all_swept { Swept (beside w.now so_far.new.rows) so_far.new.names scope.now.chosen scope.now.reach scope.now.on w.now.array.trailer.nodes }
 {
-    let mut needs = [0u32; 288];
-    let mut unions = [0u64; 432];
-    let mut arities = [0u64; 4];
-    let mut links = [0u16; 1036];
-    senders::gather(
-        3,
-        true,
-        chosen,
-        &mut needs,
-        &mut unions,
-        &mut arities,
-        &mut links,
-        file,
-        t,
-        balances,
-        rows,
-        loads,
-    );
-    let mut i = from;
-    while i < t.nodes {
-        mend_node(
-            reach, on, rows, names, file, t, balances, loads, bounds, large, lengths, &needs,
-            &unions, &arities, &links, i,
-        );
-        i += 1;
+    let mut small = senders::NO_SENDERS;
+    small.gather(PairRule::Third, true, &scope.chosen, w, &so_far.rows);
+    for i in from..w.array.trailer.nodes {
+        mend_node(scope, so_far, w, large, &small, i);
     }
 }
 
-// The pairs of a receiver on a name that is marked in `reach` (or, where `on` is false, is not) and a sender that uses a name that is marked in `chosen`.
-// Small sets are gathered only where large ones leave a node.
-fn sweep(
-    chosen: &[u64],
-    reach: &[u64],
-    on: bool,
-    rows: &mut [u64],
-    names: &mut [u64],
-    file: &[u8],
-    t: Trailer,
-    balances: usize,
-    loads: &[u32],
-    bounds: &[u32],
-)
-    requires { Given (setting file.now t balances rows.old loads.now bounds.now) × (length names.old ≡ 4) × (length reach.now ≡ 4)
-        × (length chosen.now ≡ 4) }
-    ensures grew { Grew (RuleThree (setting file.now t balances rows.old loads.now bounds.now))
-        rows.old names.old rows.new names.new }
-    ensures swept { Swept (setting file.now t balances rows.new loads.now bounds.now) names.new
-        chosen.now reach.now on t.nodes }
+// The scope's pairs. Small sets are gathered only where large ones leave a node.
+fn sweep(scope: &Scope, so_far: &mut Progress, w: &Weighing)
+    ensures grew { GrewBeside w.now so_far.old so_far.new }
+    ensures swept { Swept (beside w.now so_far.new.rows) so_far.new.names scope.now.chosen scope.now.reach scope.now.on w.now.array.trailer.nodes }
 {
-    let mut large = [0u64; 432];
-    let mut lengths = [0u64; 4];
-    let from = sweep_large(
-        chosen,
-        reach,
-        on,
-        rows,
-        names,
-        file,
-        t,
-        balances,
-        loads,
-        bounds,
-        &mut large,
-        &mut lengths,
-    );
-    if from < t.nodes {
-        sweep_small(
-            from, chosen, reach, on, rows, names, file, t, balances, loads, bounds, &large,
-            &lengths,
-        );
+    let mut large = senders::NO_SENDERS;
+    if let Some(from) = sweep_large(scope, so_far, w, &mut large) {
+        sweep_small(from, scope, so_far, w, &large);
     }
 }
 
-// A pass: the pairs that use a name of `old`: receivers on such a name beside every sender, then the other receivers beside senders that use one.
-// Answers the names whose rows changed.
-fn pass(
-    old: &[u64],
-    rows: &mut [u64],
-    file: &[u8],
-    t: Trailer,
-    balances: usize,
-    loads: &[u32],
-    bounds: &[u32],
-) -> [u64; 4]
-    requires given { Given (setting file.now t balances rows.old loads.now bounds.now) }
-    requires len { (length old.now ≡ 4) × Clean (setting file.now t balances rows.old loads.now bounds.now) old.now }
-    ensures grew { Grew (RuleThree (setting file.now t balances rows.old loads.now bounds.now))
-        rows.old (replicate 4 0) rows.new result }
-    ensures clean { Clean (setting file.now t balances rows.new loads.now bounds.now) result }
+// A pass: the pairs that use a name whose row changed in the pass before: receivers on such a name beside every sender, then the other receivers beside
+// senders that use one.
+fn pass(so_far: &mut Progress, w: &Weighing)
+    requires { Clean (beside w.now so_far.old.rows) so_far.old.names }
+    ensures grew { Grew (RuleThree (beside w.now so_far.old.rows)) so_far.old.rows (replicate 4 0) so_far.new.rows so_far.new.names }
+    ensures clean { Clean (beside w.now so_far.new.rows) so_far.new.names }
 {
-    let every = [18446744073709551615u64; 4];
-    let mut names = [0u64; 4];
-    sweep(
-        &every, old, true, rows, &mut names, file, t, balances, loads, bounds,
-    );
-    sweep(
-        old, old, false, rows, &mut names, file, t, balances, loads, bounds,
-    );
-    names
+    let old = so_far.names;
+    so_far.names = [0; 4];
+    let reached = Scope {
+        chosen: senders::EVERY_NAME,
+        reach: old,
+        on: true,
+    };
+    let others = Scope {
+        chosen: old,
+        reach: old,
+        on: false,
+    };
+    sweep(&reached, so_far, w);
+    sweep(&others, so_far, w);
 }
 
-// The first look at all pairs. Answers the names whose rows changed.
-fn first_pass(
-    rows: &mut [u64],
-    file: &[u8],
-    t: Trailer,
-    balances: usize,
-    loads: &[u32],
-    bounds: &[u32],
-) -> [u64; 4]
-    requires { Given (setting file.now t balances rows.old loads.now bounds.now) }
-    ensures grew { Grew (RuleThree (setting file.now t balances rows.old loads.now bounds.now))
-        rows.old (replicate 4 0) rows.new result }
-    ensures clean { Clean (setting file.now t balances rows.new loads.now bounds.now) result }
+// The first look at all pairs.
+fn first_pass(so_far: &mut Progress, w: &Weighing)
+    ensures grew { Grew (RuleThree (beside w.now so_far.old.rows)) so_far.old.rows (replicate 4 0) so_far.new.rows so_far.new.names }
+    ensures clean { Clean (beside w.now so_far.new.rows) so_far.new.names }
 {
-    let every = [18446744073709551615u64; 4];
-    let mut names = [0u64; 4];
-    sweep(
-        &every, &every, true, rows, &mut names, file, t, balances, loads, bounds,
-    );
-    names
+    so_far.names = [0; 4];
+    let all = Scope {
+        chosen: senders::EVERY_NAME,
+        reach: senders::EVERY_NAME,
+        on: true,
+    };
+    sweep(&all, so_far, w);
 }
 
 // Sets what rule 3 asks for, until no row changes.
-fn mend_rows(
-    rows: &mut [u64],
-    file: &[u8],
-    t: Trailer,
-    balances: usize,
-    loads: &[u32],
-    bounds: &[u32],
-)
-    requires { Given (setting file.now t balances rows.old loads.now bounds.now) }
-    ensures { Finished (setting file.now t balances rows.old loads.now bounds.now) rows.new }
+fn mend_rows(so_far: &mut Progress, w: &Weighing)
+    ensures { Finished (beside w.now so_far.old.rows) so_far.new.rows }
 {
     let none = [0u64; 4];
-    let mut names = first_pass(rows, file, t, balances, loads, bounds);
-    while !marks::contained(&names, 0, &none, 0) {
-        names = pass(&names, rows, file, t, balances, loads, bounds);
+    first_pass(so_far, w);
+    while !marks::contained(&so_far.names, 0, &none, 0) {
+        pass(so_far, w);
     }
 }
 
 // Sets what rule 1 asks for.
-fn own_marks(rows: &mut [u64], file: &[u8], t: Trailer)
-    requires { RecordsFit file.now t × (t.names ≤ 256) × (length rows.old ≡ 1024) }
-    ensures { OwnMarked (array_of file.now t) t.names rows.old rows.new }
+fn own_marks(rows: &mut [u64; 1024], array: &ArrayFile)
+    requires { array.now.trailer.names ≤ 256 }
+    ensures { OwnMarked (array_in array.now) array.now.trailer.names rows.old rows.new }
 {
-    let news = frees::opened(file, t);
-    let mut o: usize = 0;
-    while o < t.names {
+    let news = frees::opened(array);
+    for o in 0..array.trailer.names {
         let mut own = [0u64; 4];
         marks::mark_if(&mut own, marks::is_marked(&news, 0, o), o);
         marks::join(rows, o, &own, 0);
-        o += 1;
     }
 }
 
 // Writes the mended table into the output, and answers the number of bits set.
-pub fn mend_table(output: &mut [u8], file: &[u8], t: Trailer, table: &[u8], z: Sizes) -> usize
-    requires { IsRead file.now t × IsTable file.now t table.now z × (length table.now ≤ length output.old) }
-    ensures value { result ≡ bits_set (array_of file.now t) (table_of table.now z).row
-        (mended (array_of file.now t) (table_of table.now z)) }
-    ensures output_after { output.new ≡ put 0 (rewritten z (mended (array_of file.now t) (table_of table.now z)) table.now)
-        output.old }
+pub fn mend_table(output: &mut [u8], array: &ArrayFile, table: &TableFile) -> usize
+    requires { IsRead array.now.bytes.now array.now.trailer × IsTable array.now.bytes.now array.now.trailer table.now.bytes.now table.now.sizes
+        × (length table.now.bytes.now ≤ length output.old) }
+    ensures value { result ≡ bits_set (array_in array.now) (table_in table.now).row (mended (array_in array.now) (table_in table.now)) }
+    ensures output_after { output.new
+        ≡ put 0 (rewritten table.now.sizes (mended (array_in array.now) (table_in table.now)) table.now.bytes.now) output.old }
 {
     let mut rows = [0u64; 1024];
     let mut loads = [0u32; 24578];
     let mut bounds = [0u32; 24];
-    flows::flow_rows(&mut rows, table, z);
-    lists::fill_lists(&mut loads, &mut bounds, file, t, table, z);
-    own_marks(&mut rows, file, t);
-    mend_rows(&mut rows, file, t, z.balances, &loads, &bounds);
-    flows::write_table(output, table, &rows, z);
-    flows::new_bits(table, &rows, z)
+    flows::flow_rows(&mut rows, table.bytes, table.sizes);
+    lists::fill_lists(&mut loads, &mut bounds, array, table);
+    own_marks(&mut rows, array);
+    let mut so_far = Progress {
+        rows,
+        names: [0; 4],
+    };
+    let w = Weighing {
+        array: *array,
+        balances: table.sizes.balances,
+        loads: &loads,
+        bounds: &bounds,
+    };
+    mend_rows(&mut so_far, &w);
+    flows::write_table(output, table.bytes, &so_far.rows, table.sizes);
+    flows::new_bits(table.bytes, &so_far.rows, table.sizes)
 }

@@ -19,6 +19,8 @@
 //   proofs/Cases    the marked cases of 01, by computation
 #![tactic(auto)]
 
+use std::fmt;
+
 // A claim's four numbers. Declared here, so that definitions and readers speak of the same.
 #[derive(Clone, Copy)]
 pub struct Claim {
@@ -34,4 +36,15 @@ pub enum Ending {
     Quiet,
     Spent,
     Full,
+}
+
+// As `walk` prints it.
+impl fmt::Display for Ending {
+    fn fmt<W: fmt::Write>(&self, f: &mut fmt::Formatter<W>) -> fmt::Result {
+        f.write_str(match self {
+            Ending::Quiet => "quiet",
+            Ending::Spent => "spent",
+            Ending::Full => "full",
+        })
+    }
 }

@@ -7,6 +7,7 @@ use mathlib.Core.Bool.{Bool, true, false, cond, not, ◌&&◌}
 use mathlib.Core.List.{List}
 use lib.Dec.{eqb}
 use borrow.Author.Tests.{not-false}
+use Rattle.std.specs.Prelude.{Option, Some, None}
 use Rattle.laws.specs.Search.{clear, hit, test, under, first}
 use Rattle.laws.proofs.Search.{decided, clear-test, hit-test, clear-under, first-zero, first-pass, first-here, first-same, clear_first, every_true}
 use Rattle.model.specs.Tree.{agent_at}
@@ -16,7 +17,6 @@ use Rattle.records.specs.Kinds.{is_receiver}
 use Rattle.arrays.proofs.Agents.{small-arity, arity-is}
 use Rattle.pairs.specs.declared.Side.{Side}
 use Rattle.pairs.specs.declared.Place.{Place}
-use Rattle.pairs.specs.declared.Place.TheVariants.{Nowhere, At}
 use Rattle.pairs.specs.Pairs.{Setting, Given, Held, array_in, table_in, place_of, at_pair, pairs_at, pairs_of, placed, figures_of, holds_at, all_hold}
 use Rattle.pairs.specs.Pairs.{Screened, breaks_pair, DifferencesOf, holds_by, ArgumentRows, Gives}
 use Rattle.pairs.proofs.Laws.{near, alive, live-near, no-receiver, pair_is, figure-is}
@@ -36,13 +36,13 @@ figure_at rule S p q n = test (holds_at rule S.rows S.loads p q n) (place_of rul
 
 -- ---- what holds at the loops: nothing is found so far
 
-pub record AtReceiver (rule : ℕ) (S : Setting) (answer : Place) (i : ℕ) : Type 0 where
+pub record AtReceiver (rule : ℕ) (S : Setting) (answer : Option Place) (i : ℕ) : Type 0 where
   pub given : Given S
-  pub none : answer ≡ Nowhere
+  pub none : answer ≡ None
   pub within : i ≤ S.t.nodes
   pub passed : first i (λ k. row_at rule S k) ≡ clear
 
-pub record AtSender (rule : ℕ) (S : Setting) (p : Side) (count : ℕ) (answer : Place) (j : ℕ) : Type 0 where
+pub record AtSender (rule : ℕ) (S : Setting) (p : Side) (count : ℕ) (answer : Option Place) (j : ℕ) : Type 0 where
   pub receiver : AtReceiver rule S answer p.number
   pub reads : Held S p
   pub receives : is_receiver (node_of p.node) ≡ true
@@ -50,7 +50,7 @@ pub record AtSender (rule : ℕ) (S : Setting) (p : Side) (count : ℕ) (answer 
   pub within : j ≤ S.t.nodes
   pub passed : first j (λ k. pair_at rule S p.number k) ≡ clear
 
-pub record AtFigure (rule : ℕ) (S : Setting) (p : Side) (count : ℕ) (q : Side) (answer : Place) (n : ℕ) : Type 0 where
+pub record AtFigure (rule : ℕ) (S : Setting) (p : Side) (count : ℕ) (q : Side) (answer : Option Place) (n : ℕ) : Type 0 where
   pub sender : AtSender rule S p count answer q.number
   pub reads : Held S q
   pub lives : alive S p q ≡ true
@@ -118,14 +118,14 @@ module _ (rule : ℕ) {S : Setting} {p : Side} (g : Given S) (r : Held S p) wher
 
 module _ {rule : ℕ} {S : Setting} where
   -- nothing is found below the first receiver
-  pub begin : Given S → {from : ℕ} → from ≤ S.t.nodes → Screened rule (array_in S) (table_in S) from → AtReceiver rule S Nowhere from
+  pub begin : Given S → {from : ℕ} → from ≤ S.t.nodes → Screened rule (array_in S) (table_in S) from → AtReceiver rule S None from
   begin g {from} l below = record { given = g; none = refl; within = l; passed = clear_first from _ below }
 
   -- one receiver more
-  pub row-passed : {answer : Place} {i : ℕ} → AtReceiver rule S answer i → i < S.t.nodes → row_at rule S i ≡ clear → AtReceiver rule S answer (i + 1)
+  pub row-passed : {answer : Option Place} {i : ℕ} → AtReceiver rule S answer i → i < S.t.nodes → row_at rule S i ≡ clear → AtReceiver rule S answer (i + 1)
   row-passed {answer} {i} h l e = record { given = h.given; none = h.none; within = omega arith; passed = first-pass _ i h.passed e }
 
-  module _ {p : Side} {answer : Place} (h : AtReceiver rule S answer p.number) where
+  module _ {p : Side} {answer : Option Place} (h : AtReceiver rule S answer p.number) where
     -- a node without figures
     pub nothing-row : Held S p → figures_of rule S.n p.node ≡ 0 → AtReceiver rule S answer (p.number + 1)
     nothing-row r e = row-passed h r.below (nothing-found rule h.given r e)
@@ -139,7 +139,7 @@ module _ {rule : ℕ} {S : Setting} where
         ]
 
   -- every receiver passed
-  pub nowhere : {answer : Place} {i : ℕ} → AtReceiver rule S answer i → S.t.nodes ≤ i
+  pub nowhere : {answer : Option Place} {i : ℕ} → AtReceiver rule S answer i → S.t.nodes ≤ i
       → placed rule answer ≡ pairs_of rule (array_in S) (table_in S)
   unfolding pairs
   nowhere {answer} {i} h l =
@@ -147,7 +147,7 @@ module _ {rule : ℕ} {S : Setting} where
       let e : i ≡ S.t.nodes = omega arith in
       rw h.none (sym (rw e at h.passed))
 
-  module _ {p : Side} {count : ℕ} {answer : Place} {q : Side} (h : AtSender rule S p count answer q.number) (r : Held S q) where
+  module _ {p : Side} {count : ℕ} {answer : Option Place} {q : Side} (h : AtSender rule S p count answer q.number) (r : Held S q) where
     found_at : pair_at rule S p.number q.number ≡ under (alive S p q) (first count (λ m. figure_at rule S p q m))
     found_at = pair-at rule h.receiver.given h.reads h.receives h.many r
 
@@ -174,14 +174,14 @@ module _ {rule : ℕ} {S : Setting} where
     pair e = record { sender = h; reads = r; lives = e; within = omega arith; passed = first-zero _ }
 
   -- every sender passed
-  pub next_row : {p : Side} {count : ℕ} {answer : Place} {j : ℕ} → AtSender rule S p count answer j → S.t.nodes ≤ j
+  pub next_row : {p : Side} {count : ℕ} {answer : Option Place} {j : ℕ} → AtSender rule S p count answer j → S.t.nodes ≤ j
       → AtReceiver rule S answer (p.number + 1)
   next_row {p} {count} {answer} {j} h l =
       let w = h.within in
       let e : j ≡ S.t.nodes = omega arith in
       row-passed h.receiver h.reads.below (rw e at h.passed)
 
-  module _ {p : Side} {count : ℕ} {q : Side} {answer : Place} {n : ℕ} (h : AtFigure rule S p count q answer n) where
+  module _ {p : Side} {count : ℕ} {q : Side} {answer : Option Place} {n : ℕ} (h : AtFigure rule S p count q answer n) where
     pub figure-near : near S p q ≡ true
     figure-near = live-near S p q h.lives
 
@@ -220,7 +220,7 @@ module _ {rule : ℕ} {S : Setting} where
 
     -- the rule fails here
     pub found : n < count → holds_at rule S.rows S.loads p q n ≡ false
-        → placed rule (At p.number q.number n) ≡ pairs_of rule (array_in S) (table_in S)
+        → placed rule (Some record { receiver = p.number; sender = q.number; figure = n }) ≡ pairs_of rule (array_in S) (table_in S)
     unfolding pairs under
     found l e =
         let w = h.sender in

@@ -1,5 +1,5 @@
 -- Rules 3 and 4 as one search over receiver, sender and a last figure, and the same by the checker's own lists.
-use Rattle.std.specs.Prelude.{ℕ, suc, ◌+◌, ◌-◌, ◌≤◌, ◌<◌, ◌≡◌, Bool, true, false, cond, not, ◌&&◌, List, [], ◌∷◌, eqb, leb, ltb, length, get_or}
+use Rattle.std.specs.Prelude.{Option, Some, None, ℕ, suc, ◌+◌, ◌-◌, ◌≤◌, ◌<◌, ◌≡◌, Bool, true, false, cond, not, ◌&&◌, List, [], ◌∷◌, eqb, leb, ltb, length, get_or}
 use Rattle.laws.specs.Search.{clear, hit, test, first, every}
 use Rattle.marks.specs.Marks.{HasRow, marked, share, inside}
 use Rattle.model.specs.Tree.{Array, Agent, agent_at, node_at, is_agent, proc_at, load}
@@ -13,8 +13,9 @@ use Rattle.arrays.specs.File.{IsRead}
 use Rattle.arrays.specs.Agents.{Reads}
 use Rattle.loads.specs.Loads.{entry_index, load_in, Half}
 use Rattle.pairs.specs.declared.Side.{Side}
+use Rattle.pairs.specs.declared.PairRule.{PairRule}
+use Rattle.pairs.specs.declared.PairRule.TheVariants.{Third, Fourth}
 use Rattle.pairs.specs.declared.Place.{Place}
-use Rattle.pairs.specs.declared.Place.TheVariants.{Nowhere, At}
 
 -- ---- the table that the checker's lists stand for: rows of marks, loads and bounds of n balances; the claims stay in the file
 
@@ -62,6 +63,13 @@ pub record Given (S : Setting) : Type 0 where
   pub lists : Lists S.n S.rows S.bounds
   pub weighed : Weighed S.loads (array_of S.f S.t) S.n
 
+-- the same but for the rows, which a mender changes
+pub record IsWeighed (f : List ℕ) (t : Trailer) (n : ℕ) (loads bounds : List ℕ) : Type 0 where
+  pub read : IsRead f t
+  pub few : n ≤ 24
+  pub many_bounds : length bounds ≡ 24
+  pub weighed : Weighed loads (array_of f t) n
+
 abbrev pub array_in : Setting → Array
 array_in S = array_of S.f S.t
 
@@ -73,6 +81,11 @@ abbrev pub Held : Setting → Side → Type 0
 Held S p = Reads S.f S.t p.number p.node
 
 -- ---- the last figure: arguments for rule 3, balances for rule 4
+
+-- a rule's number in 01
+abbrev pub rule_number : PairRule → ℕ
+rule_number Third = 3
+rule_number Fourth = 4
 
 abbrev pub figures : ℕ → Table → Agent → ℕ
 figures rule t p = cond (eqb rule 3) (length p.args) t.balances
@@ -101,14 +114,14 @@ abbrev pub Screened : ℕ → Array → Table → ℕ → Type 0
 Screened rule a t from = (i : ℕ) → i < from → pairs_at rule a t i ≡ clear
 
 -- what a search over the pairs answers
-abbrev pub placed : ℕ → Place → Verdict
-placed rule Nowhere = clear
-placed rule (At i j n) = hit (place_of rule i j n)
+abbrev pub placed : ℕ → Option Place → Verdict
+placed rule None = clear
+placed rule (Some p) = hit (place_of rule p.receiver p.sender p.figure)
 
 -- a last figure is small: there are at most 8 arguments and 24 balances
-abbrev pub SmallFigure : Place → Type 0
-SmallFigure Nowhere = Unit {0}
-SmallFigure (At i j n) = n < 24
+abbrev pub SmallFigure : Option Place → Type 0
+SmallFigure None = Unit {0}
+SmallFigure (Some p) = p.figure < 24
 
 -- ---- the same of two sides, p and q, by the lists
 

@@ -1,5 +1,5 @@
 -- Two threads by their agents' records: what the model's refusals 25 to 27 of them are, and the search for the first ready pair.
-use Prim.Native.Nat.{ℕ, ◌+◌, ◌*◌, ◌≤◌, ◌<◌}
+use Prim.Native.Nat.{ℕ, ◌+◌, ◌*◌, ◌<◌}
 use native.Mathlib.Omega.{arith}
 use mathlib.Core.Path.{◌≡◌, refl, sym, ap, ap₂, ◌∙◌}
 use mathlib.Core.Bool.{Bool, true, false, cond, not, ◌&&◌}
@@ -7,6 +7,7 @@ use mathlib.Core.List.{List, []}
 use mathlib.Core.Option.{Option, some}
 use lib.Dec.{eqb}
 use lib.ListN.{length, get_or, drop}
+use Rattle.std.specs.Prelude.{Some}
 use Rattle.laws.specs.Search.{Found, clear, hit, test, first}
 use Rattle.laws.proofs.Search.{clear-test, hit-test, first-here, clear_first}
 use Rattle.model.specs.Tree.{node_at, Agent, agent_at, receives, is_agent}
@@ -23,7 +24,7 @@ use Rattle.arrays.specs.File.{IsRead}
 use Rattle.arrays.specs.Agents.{agent_in, Reads}
 use Rattle.arrays.proofs.Agents.{node-is, agent-is, arity-is, name_below}
 use Rattle.ready.specs.declared.Act.{Act}
-use Rattle.ready.specs.Ready.{Acts, number_of, meeting, act_of, act_at, meet, FirstSender}
+use Rattle.ready.specs.Ready.{Acts, number_of, meeting, act_of, act_at, meet, NoneReady, FirstSender}
 use Rattle.ready.proofs.Attempts.{checked}
 
 -- ---- the number of a refusal
@@ -83,10 +84,6 @@ number s t l count r q = meeting (array_of s t) (get_or (threads_in t.names coun
 abbrev pub row : List ℕ → Trailer → List ℕ → ℕ → Choices → ℕ → Found Attempt
 row s t l count ch r = first count (λ q. test (not (eqb (number s t l count r q) 0)) (try ch r q))
 
--- the thread at a place, by its position
-pub act-here : (s : List ℕ) (t : Trailer) (l : List ℕ) (i at : ℕ) → at ≡ i * (2 + t.names) → act_of s t (thread_in t.names (drop at l)) ≡ act_at s t l i
-act-here s t l i at e = ap (λ (k : ℕ). act_of s t (thread_in t.names (drop k l))) e
-
 -- a thread that lies in the list, as the model reads it
 pub agent-acts : {s : List ℕ} {t : Trailer} {l : List ℕ} {i : ℕ} → Acts s t l i
     → is_agent (node_at (array_of s t) (thread_in t.names (drop (i * (2 + t.names)) l)).agent) ≡ true
@@ -94,10 +91,7 @@ agent-acts {s} {t} {l} {i} h = ap (λ (j : ℕ). is_agent (node_at (array_of s t
 
 module _ (s : List ℕ) (t : Trailer) (l : List ℕ) (count : ℕ)
     (agents : (i : ℕ) → i < count → is_agent (node_at (array_of s t) (get_or l (i * (2 + t.names)) 0)) ≡ true) where
-  -- thread i of the list has an agent, by its place and as the model reads it
-  pub agent-place : (i at : ℕ) → i < count → at ≡ i * (2 + t.names) → is_agent (node_at (array_of s t) (get_or l at 0)) ≡ true
-  agent-place i at h e = ap (λ (k : ℕ). is_agent (node_at (array_of s t) (get_or l k 0))) e ∙ agents i h
-
+  -- thread i of the list has an agent, as the model reads it
   pub agent-here : (i : ℕ) → i < count → is_agent (node_at (array_of s t) (thread_in t.names (drop (i * (2 + t.names)) l)).agent) ≡ true
   agent-here i h = ap (λ (j : ℕ). is_agent (node_at (array_of s t) j)) (agent-word t.names (i * (2 + t.names)) l) ∙ agents i h
 
@@ -107,14 +101,15 @@ module _ (s : List ℕ) (t : Trailer) (l : List ℕ) (count : ℕ)
         ap₂ (meeting (array_of s t)) (threads-at t.names r count l h) (threads-at t.names q count l k)
         ∙ met s t read _ _ (agent-here r h) (agent-here q k)
 
-    module _ (ch : Choices) (q : ℕ) (f : FirstSender s t l count (act_at s t l r) q) where
-      passed : (j : ℕ) → j < q → j < count → test (not (eqb (number s t l count r j) 0)) (try ch r j) ≡ clear
-      passed j lt k = clear-test _ (try ch r j) (ap (λ (m : ℕ). not (eqb m 0)) (pair-at j k) ∙ ap not (f.0 j lt))
+    module _ (ch : Choices) where
+      passed : (q : ℕ) → NoneReady s t l (act_at s t l r) q
+          → (j : ℕ) → j < q → j < count → test (not (eqb (number s t l count r j) 0)) (try ch r j) ≡ clear
+      passed q f j lt k = clear-test _ (try ch r j) (ap (λ (m : ℕ). not (eqb m 0)) (pair-at j k) ∙ ap not (f j lt))
 
-      pub row-hit : q < count → row s t l count ch r ≡ hit (try ch r q)
-      row-hit k =
-          first-here _ q count (try ch r q) (clear_first q _ (λ j lt. passed j lt (omega arith)))
-          (hit-test _ (try ch r q) (ap (λ (m : ℕ). not (eqb m 0)) (pair-at q k) ∙ ap not (f.1 k))) k
+      pub row-hit : (q : ℕ) → FirstSender s t l count (act_at s t l r) (Some q) → row s t l count ch r ≡ hit (try ch r q)
+      row-hit q f =
+          first-here _ q count (try ch r q) (clear_first q _ (λ j lt. passed q f.1 j lt (let k = f.0 in omega arith)))
+          (hit-test _ (try ch r q) (ap (λ (m : ℕ). not (eqb m 0)) (pair-at q f.0) ∙ ap not f.2)) f.0
 
-      pub row-clear : count ≤ q → row s t l count ch r ≡ clear
-      row-clear k = clear_first count _ (λ j lt. passed j (omega arith) lt)
+      pub row-clear : NoneReady s t l (act_at s t l r) count → row s t l count ch r ≡ clear
+      row-clear f = clear_first count _ (λ j lt. passed count f j lt lt)

@@ -1,3 +1,4 @@
 pub mod Laws
 pub mod Attempts
 pub mod Noted
+pub mod Told

@@ -1,22 +1,29 @@
 -- Whether two threads are ready, and the first pair that is.
 use Rattle.std.specs.Prelude.{ℕ, ◌+◌, ◌*◌, ◌<◌, ◌≤◌, ◌≡◌, true, false, cond, not, ◌&&◌, List, [], eqb, length, get_or, drop}
+use Rattle.std.specs.Prelude.{Option, Some, None, Result, Ok, Err}
 use Rattle.laws.specs.Search.{Found, clear, hit, test, first}
 use Rattle.model.specs.Tree.{Array, node_at, is_agent, agent_at, receives}
 use Rattle.model.specs.Calculus.{Thread, Config, Choices, Attempt, Answer, refused, next, unless, on_agents, cell}
 use Rattle.model.specs.Numbers.{nobody}
 use Rattle.model.specs.Memory.{words, thread_in, try, is_out}
 use Rattle.records.specs.declared.Trailer.{Trailer}
+use Rattle.records.specs.declared.Reason.{Reason}
+use Rattle.records.specs.Record as R
 use Rattle.records.specs.Record.{record_of, node_of, array_of}
 use Rattle.records.specs.Kinds.{is_receiver}
 use Rattle.ready.specs.declared.Act.{Act}
-use Rattle.ready.specs.declared.Search.{Search}
-use Rattle.ready.specs.declared.Ready.{Ready}
-use Rattle.ready.specs.declared.Ready.TheVariants.{Nothing, At}
+use Rattle.ready.specs.declared.Senders.{Senders}
+use Rattle.ready.specs.declared.Pair.{Pair}
 
 -- a refusal by its number, 0 where there is none
 unfoldable pub number_of : {X C : Type 0} → Answer X C → ℕ
 number_of (refused n) = n
 number_of (next c) = 0
+
+-- what the code answers of a pair, by a refusal's number, 0 where there is none
+abbrev pub told : Result (Unit {0}) Reason → ℕ
+told (Ok u) = 0
+told (Err r) = R.number_of r
 
 -- 25 to 27, or 0 where receiver r and sender s are ready
 unfoldable pub meeting : Array → Thread ℕ ℕ → Thread ℕ ℕ → ℕ
@@ -57,9 +64,10 @@ meet p q =
 abbrev pub NoneReady : List ℕ → Trailer → List ℕ → Act → ℕ → Type 0
 NoneReady file t l p s = (j : ℕ) → j < s → eqb (meet p (act_at file t l j)) 0 ≡ false
 
--- below thread s none is ready with receiver p, and thread s is, where there is one
-abbrev pub FirstSender : List ℕ → Trailer → List ℕ → ℕ → Act → ℕ → Type 0
-FirstSender file t l count p s = NoneReady file t l p s × (s < count → eqb (meet p (act_at file t l s)) 0 ≡ true)
+-- the first of k threads that is ready with receiver p, where there is one
+abbrev pub FirstSender : List ℕ → Trailer → List ℕ → ℕ → Act → Option ℕ → Type 0
+FirstSender file t l k p None = NoneReady file t l p k
+FirstSender file t l k p (Some s) = (s < k) × NoneReady file t l p s × (eqb (meet p (act_at file t l s)) 0 ≡ true)
 
 -- the first n numbers of xs are positions below i in rising order, and each of the first i threads that sends is one of them
 pub record Noted (file : List ℕ) (t : Trailer) (l : List ℕ) (i : ℕ) (xs : List ℕ) (n : ℕ) : Type 0 where
@@ -68,10 +76,9 @@ pub record Noted (file : List ℕ) (t : Trailer) (l : List ℕ) (i : ℕ) (xs : 
   pub rising : (j k : ℕ) → j < k → k < n → get_or xs j 0 < get_or xs k 0
   pub whole : (j : ℕ) → j < i → (act_at file t l j).sends ≡ true → (k : ℕ) × (k < n) × (get_or xs k 0 ≡ j)
 
--- the first sender, and what is noted after the search
-abbrev pub Searched : List ℕ → Trailer → List ℕ → ℕ → Act → List ℕ → Search → Type 0
-Searched file t l count p xs f =
-    FirstSender file t l count p f.sender × (f.seen ≤ count) × Noted file t l f.seen xs f.noted
+-- the senders noted are those of the threads seen, the first ones of k
+abbrev pub Seen : List ℕ → Trailer → List ℕ → ℕ → Senders → Type 0
+Seen file t l k s = (s.seen ≤ k) × (length s.at ≡ 256) × Noted file t l s.seen s.at s.noted
 
 -- ---- the first pair
 
@@ -79,6 +86,6 @@ Searched file t l count p xs f =
 unfoldable pub first_meeting : Array → Config ℕ ℕ → ℕ → Choices → Found Attempt
 first_meeting a c k ch = first k λ r. first k λ s. test (not (eqb (meeting a (get_or c r nobody) (get_or c s nobody)) 0)) (try ch r s)
 
-abbrev pub found_pair : Ready → Choices → Found Attempt
-found_pair Nothing ch = clear
-found_pair (At r s) ch = hit (try ch r s)
+abbrev pub found_pair : Option Pair → Choices → Found Attempt
+found_pair None ch = clear
+found_pair (Some p) ch = hit (try ch p.receiver p.sender)

@@ -2,22 +2,22 @@
 // Promises equations with refusals 25 to 27 of the model's attempt. Depends on arrays, records, wire, model and laws.
 #![tactic(auto)]
 
-ghost use Rattle.std.specs.Prelude.{◌≡◌, true, ℕ, ◌+◌, ◌*◌, ◌<◌, ◌≤◌, length, get_or, drop};
+ghost use Rattle.std.specs.Prelude.{◌≡◌, true, ℕ, ◌+◌, ◌*◌, ◌<◌, ◌≤◌, length, get_or, drop, slice_set};
 ghost use Rattle.laws.specs.Lists.{one};
 ghost use Rattle.model.specs.Tree.{node_at, is_agent};
 ghost use Rattle.model.specs.Calculus.{Choices};
 ghost use Rattle.model.specs.Memory.{thread_in, threads_in};
-ghost use Rattle.records.specs.Record.{array_of};
+ghost use Rattle.records.specs.ArrayFile.{array_in};
 ghost use Rattle.arrays.specs.File.{IsRead};
-ghost use Rattle.ready.specs.Ready.{Acts, act_of, meet, NoneReady, FirstSender, Noted, Searched, meeting, first_meeting, found_pair};
+ghost use Rattle.ready.specs.Ready.{Acts, act_at, told, meet, FirstSender, NoneReady, Seen, meeting, first_meeting, found_pair};
 
-use records::Trailer;
+use records::{ArrayFile, Reason};
 
-// The first pair of threads that is ready: receiver and sender.
-#[derive(Clone, Copy)]
-pub enum Ready {
-    Nothing,
-    At(usize, usize),
+// Two threads by their positions.
+#[derive(Clone, Copy, Debug, PartialEq, Eq)]
+pub struct Pair {
+    pub receiver: usize,
+    pub sender: usize,
 }
 
 // What a thread does: whether its agent receives or sends, the arity, and the word of its channel.
@@ -29,21 +29,48 @@ struct Act {
     channel: u32,
 }
 
-// The sender that a search found, or the number of threads, and what is noted then: `noted` senders, all of the first `seen` threads.
+// The threads in use on an array that was read: the first `count` of the words, each an agent's.
 #[derive(Clone, Copy)]
-struct Search {
-    sender: usize,
+struct Threads<'a> {
+    array: ArrayFile<'a>,
+    words: &'a [u32],
+    count: usize,
+    ghost read: { IsRead array.bytes.now array.trailer },
+    ghost few: { count ≤ 256 },
+    ghost acts: { (i : ℕ) → i < count → Acts array.bytes.now array.trailer words.now i },
+}
+
+// The senders among the first `seen` threads: their positions, the first `noted` of `at`, in rising order.
+#[derive(Clone, Copy)]
+struct Senders {
+    at: [u8; 256],
     noted: usize,
     seen: usize,
 }
 
-// What the thread at index `at` does.
-fn act_at(file: &[u8], t: Trailer, threads: &[u32], at: usize) -> Act
-    requires read { IsRead file.now t × (at + (2 + t.names) ≤ length threads.now) }
-    requires at_value { is_agent (node_at (array_of file.now t) (get_or threads.now at 0)) ≡ true }
-    ensures { result ≡ act_of file.now t (thread_in t.names (drop at threads.now)) }
+impl Senders {
+    // The next thread is seen: its position is stored, and stays there if the thread sends.
+    fn see(&mut self, q: Act)
+        requires { (self.old.noted ≤ self.old.seen) × (self.old.seen < 256) }
+        ensures { self.new ≡ record {
+          at = slice_set self.old.at self.old.noted self.old.seen;
+          noted = self.old.noted + one q.sends;
+          seen = self.old.seen + 1;
+        } }
+    {
+        self.at[self.noted] = self.seen as u8;
+        self.noted += usize::from(q.sends);
+        self.seen += 1;
+    }
+}
+
+// What thread i does.
+fn act_at(array: &ArrayFile, threads: &[u32], i: usize) -> Act
+    requires { IsRead array.now.bytes.now array.now.trailer × Acts array.now.bytes.now array.now.trailer threads.now i }
+    ensures { result ≡ act_at array.now.bytes.now array.now.trailer threads.now i }
 {
-    let r = records::node_at(file, t, wire::word_index(threads[at]));
+    let at = i * (2 + array.trailer.names);
+    let r = array.node_at(threads[at] as usize);
     Act {
         receives: records::receives(r),
         sends: records::sends(r),
@@ -52,172 +79,109 @@ fn act_at(file: &[u8], t: Trailer, threads: &[u32], at: usize) -> Act
     }
 }
 
-// 25 to 27, or 0 where the receiver and the sender are ready.
-fn meets(p: Act, q: Act) -> u8
-    ensures { result ≡ meet p q }
+// Whether the receiver and the sender are ready, else 25 to 27.
+fn meets(p: Act, q: Act) -> Result<(), Reason>
+    ensures { told result ≡ meet p q }
 {
     if !(p.receives & q.sends) {
-        return 25;
+        return Err(Reason::Roles);
     }
     if p.arity != q.arity {
-        return 26;
+        return Err(Reason::Arities);
     }
     if !((p.channel != 0) & (p.channel == q.channel)) {
-        return 27;
+        return Err(Reason::Channels);
     }
-    0
+    Ok(())
 }
 
-// 25 to 27, or 0 where threads r and s are ready as receiver and sender.
-pub fn pair_refusal(file: &[u8], t: Trailer, threads: &[u32], r: usize, s: usize) -> u8
-    requires { IsRead file.now t × Acts file.now t threads.now r × Acts file.now t threads.now s }
-    ensures { result ≡ meeting (array_of file.now t) (thread_in t.names (drop (r * (2 + t.names)) threads.now))
-        (thread_in t.names (drop (s * (2 + t.names)) threads.now)) }
+// Whether the two threads of a pair are ready, else 25 to 27.
+pub fn pair_refusal(array: &ArrayFile, threads: &[u32], pair: Pair) -> Result<(), Reason>
+    requires { IsRead array.now.bytes.now array.now.trailer × Acts array.now.bytes.now array.now.trailer threads.now pair.receiver
+        × Acts array.now.bytes.now array.now.trailer threads.now pair.sender }
+    ensures { told result ≡ meeting (array_in array.now)
+        (thread_in array.now.trailer.names (drop (pair.receiver * (2 + array.now.trailer.names)) threads.now))
+        (thread_in array.now.trailer.names (drop (pair.sender * (2 + array.now.trailer.names)) threads.now)) }
 {
-    let width = 2 + t.names;
-    let p = act_at(file, t, threads, r * width);
-    let q = act_at(file, t, threads, s * width);
+    let p = act_at(array, threads, pair.receiver);
+    let q = act_at(array, threads, pair.sender);
     meets(p, q)
 }
 
-// How many senders are noted, thread q with them.
-fn count_out(noted: usize, q: Act) -> usize
-    requires { noted < 256 }
-    ensures { result ≡ noted + one q.sends }
-{
-    if q.sends {
-        return noted + 1;
-    }
-    noted
-}
-
-// The first noted sender that is ready with receiver p, or `seen`.
-fn first_noted(
-    file: &[u8],
-    t: Trailer,
-    threads: &[u32],
-    p: Act,
-    outs: &[u8],
-    noted: usize,
-    seen: usize,
-) -> usize
-    requires read { IsRead file.now t × (seen ≤ 256) × (seen * (2 + t.names) ≤ length threads.now) × (length outs.now ≡ 256) }
-    requires by_index { (i : ℕ) → i < seen → is_agent (node_at (array_of file.now t) (get_or threads.now (i * (2 + t.names)) 0)) ≡ true }
-    requires noted { Noted file.now t threads.now seen outs.now noted }
-    ensures { FirstSender file.now t threads.now seen p result }
-{
-    let width = 2 + t.names;
-    let mut k: usize = 0;
-    while k < noted {
-        let s = wire::byte_index(outs[k]);
-        let q = act_at(file, t, threads, s * width);
-        if meets(p, q) == 0 {
-            return s;
+impl Threads<'_> {
+    // The first noted sender that is ready with receiver p.
+    fn first_noted(&self, p: Act, senders: &Senders) -> Option<usize>
+        requires { Seen self.now.array.bytes.now self.now.array.trailer self.now.words.now self.now.count senders.now }
+        ensures { FirstSender self.now.array.bytes.now self.now.array.trailer self.now.words.now senders.now.seen p result }
+    {
+        for place in &senders.at[..senders.noted] {
+            let s = usize::from(*place);
+            let q = act_at(&self.array, self.words, s);
+            if meets(p, q).is_ok() {
+                return Some(s);
+            }
         }
-        k += 1;
+        None
     }
-    seen
-}
 
-// The first sender from thread `seen` on that is ready with receiver p, or `count`. Every thread is stored in the next place;
-// it stays there if it sends.
-fn first_unseen(
-    file: &[u8],
-    t: Trailer,
-    threads: &[u32],
-    count: usize,
-    p: Act,
-    outs: &mut [u8],
-    noted: usize,
-    seen: usize,
-) -> Search
-    requires read { IsRead file.now t × (count ≤ 256) × (count * (2 + t.names) ≤ length threads.now) × (length outs.old ≡ 256) }
-    requires by_index { (i : ℕ) → i < count → is_agent (node_at (array_of file.now t) (get_or threads.now (i * (2 + t.names)) 0)) ≡ true }
-    requires seen_le_count { (seen ≤ count) × Noted file.now t threads.now seen outs.old noted × NoneReady file.now t threads.now p seen }
-    ensures { Searched file.now t threads.now count p outs.new result }
-{
-    let width = 2 + t.names;
-    let mut n = noted;
-    let mut s = seen;
-    while s < count {
-        let q = act_at(file, t, threads, s * width);
-        outs[n] = s as u8;
-        n = count_out(n, q);
-        if meets(p, q) == 0 {
-            return Search {
-                sender: s,
-                noted: n,
-                seen: s + 1,
-            };
+    // The first sender among the threads not seen yet that is ready with receiver p.
+    fn first_unseen(&self, p: Act, senders: &mut Senders) -> Option<usize>
+        requires seen { Seen self.now.array.bytes.now self.now.array.trailer self.now.words.now self.now.count senders.old }
+        requires none { NoneReady self.now.array.bytes.now self.now.array.trailer self.now.words.now p senders.old.seen }
+        ensures { FirstSender self.now.array.bytes.now self.now.array.trailer self.now.words.now self.now.count p result
+            × Seen self.now.array.bytes.now self.now.array.trailer self.now.words.now self.now.count senders.new }
+    {
+        for s in senders.seen..self.count {
+            let q = act_at(&self.array, self.words, s);
+            senders.see(q);
+            if meets(p, q).is_ok() {
+                return Some(s);
+            }
         }
-        s += 1;
+        None
     }
-    Search {
-        sender: count,
-        noted: n,
-        seen: count,
-    }
-}
 
-// The first sender that is ready with receiver p, or `count`: among the noted ones, then among the threads not seen yet.
-fn first_sender(
-    file: &[u8],
-    t: Trailer,
-    threads: &[u32],
-    count: usize,
-    p: Act,
-    outs: &mut [u8],
-    noted: usize,
-    seen: usize,
-) -> Search
-    requires read { IsRead file.now t × (count ≤ 256) × (count * (2 + t.names) ≤ length threads.now) × (length outs.old ≡ 256) }
-    requires by_index { (i : ℕ) → i < count → is_agent (node_at (array_of file.now t) (get_or threads.now (i * (2 + t.names)) 0)) ≡ true }
-    requires seen_le_count { (seen ≤ count) × Noted file.now t threads.now seen outs.old noted }
-    ensures { Searched file.now t threads.now count p outs.new result }
-{
-    if !p.receives {
-        return Search {
-            sender: count,
-            noted,
-            seen,
-        };
+    // The first sender that is ready with receiver p: among the noted ones, then among the threads not seen yet.
+    fn first_sender(&self, p: Act, senders: &mut Senders) -> Option<usize>
+        requires { Seen self.now.array.bytes.now self.now.array.trailer self.now.words.now self.now.count senders.old }
+        ensures { FirstSender self.now.array.bytes.now self.now.array.trailer self.now.words.now self.now.count p result
+            × Seen self.now.array.bytes.now self.now.array.trailer self.now.words.now self.now.count senders.new }
+    {
+        if !p.receives {
+            return None;
+        }
+        if let Some(s) = self.first_noted(p, senders) {
+            return Some(s);
+        }
+        self.first_unseen(p, senders)
     }
-    let s = first_noted(file, t, threads, p, outs, noted, seen);
-    if s < seen {
-        return Search {
-            sender: s,
-            noted,
-            seen,
-        };
-    }
-    first_unseen(file, t, threads, count, p, outs, noted, seen)
 }
 
 // The first ready pair: lowest receiver, then lowest sender. Senders are noted as they are seen, so that each further receiver
 // is compared with them alone.
-pub fn first_ready(file: &[u8], t: Trailer, threads: &[u32], count: usize) -> Ready
-    requires read { IsRead file.now t × (count ≤ 256) × (count * (2 + t.names) ≤ length threads.now) }
-    requires by_index { (i : ℕ) → i < count → is_agent (node_at (array_of file.now t) (get_or threads.now (i * (2 + t.names)) 0)) ≡ true }
+// The list comes whole with a count and not cut to it: it is lent so to every call, and a cut would be one slice more in each clause.
+pub fn first_ready(array: &ArrayFile, threads: &[u32], count: usize) -> Option<Pair>
+    requires read { IsRead array.now.bytes.now array.now.trailer × (count ≤ 256) × (count * (2 + array.now.trailer.names) ≤ length threads.now) }
+    requires by_index { (i : ℕ) → i < count
+        → is_agent (node_at (array_in array.now) (get_or threads.now (i * (2 + array.now.trailer.names)) 0)) ≡ true }
     ensures { (ch : Choices) → found_pair result ch
-        ≡ first_meeting (array_of file.now t) (threads_in t.names count threads.now) count ch }
+        ≡ first_meeting (array_in array.now) (threads_in array.now.trailer.names count threads.now) count ch }
 {
-    let width = 2 + t.names;
-    let mut outs = [0u8; 256];
-    let mut noted: usize = 0;
-    let mut seen: usize = 0;
-    let mut at: usize = 0;
-    let mut r: usize = 0;
-    while r < count {
-        let p = act_at(file, t, threads, at);
-        let f = first_sender(file, t, threads, count, p, &mut outs, noted, seen);
-        let s = f.sender;
-        if s < count {
-            return Ready::At(r, s);
+    let list = Threads {
+        array: *array,
+        words: threads,
+        count,
+    };
+    let mut senders = Senders {
+        at: [0; 256],
+        noted: 0,
+        seen: 0,
+    };
+    for receiver in 0..count {
+        let p = act_at(array, threads, receiver);
+        if let Some(sender) = list.first_sender(p, &mut senders) {
+            return Some(Pair { receiver, sender });
         }
-        noted = f.noted;
-        seen = f.seen;
-        at += width;
-        r += 1;
     }
-    Ready::Nothing
+    None
 }

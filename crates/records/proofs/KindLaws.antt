@@ -2,17 +2,18 @@
 use Prim.Native.Nat.{ℕ, ◌<◌}
 use native.Mathlib.Omega.{arith}
 use mathlib.Core.Path.{◌≡◌, refl, sym, ap, ◌∙◌}
-use mathlib.Core.Logic.{inl, inr}
 use mathlib.Core.Bool.{Bool, true, false, not, ◌&&◌, ◌||◌, false≢true, true≢false, or-false}
 use lib.Dec.{eqb, leb, ltb}
-use borrow.Author.Tests.{lt-ltb, le-leb, eqb-true, eqb-false, eq-eqb, ne_eqb, not-true, not-false}
+use borrow.Author.Tests.{lt-ltb, le-leb, eq-eqb, ne_eqb, not-true, not-false}
 use Rattle.laws.specs.Lists.{has}
-use Rattle.laws.proofs.Search.{decided, and-join, or_left, or_right}
+use Rattle.laws.proofs.Search.{and-join, or_left, or_right}
 use Rattle.model.specs.Tree.{Sort, out, inp, resource, Node, is_agent, receives}
 use Rattle.model.specs.Memory.{is_out, is_resource}
 use Rattle.model.specs.Formed.{children}
+use Rattle.records.specs.declared.Kind.{Kind}
+use Rattle.records.specs.declared.Kind.TheVariants as T
 use Rattle.records.specs.declared.Record.{Record}
-use Rattle.records.specs.Record.{args_of, sort_of, node_of}
+use Rattle.records.specs.Record.{kind_number, args_of, sort_for, sort_of, node_of}
 use Rattle.records.specs.Kinds.{is_stop, is_new_node, is_par, is_choice, is_receiver}
 use Rattle.records.proofs.Laws.{by_kind}
 
@@ -21,62 +22,66 @@ pub other : (k j : ℕ) → j < k → eqb k j ≡ false
 other k j h = ne_eqb k j (λ e. omega arith)
 
 -- a statement of an agent's kind and sort; kinds above 5 read as resource
-module _ (r : Record) (P : ℕ → Sort → Type 0) (outs : P 4 out) (ins : P 5 inp) (resources : (k : ℕ) → 5 < k → P k resource) where
-  by-sort : (k : ℕ) → 3 < k → r.kind ≡ k → P k (sort_of r)
+module _ (r : Record) (P : Kind → Sort → Type 0) (outs : P T.Out out) (ins : P T.In inp)
+    (resources : (k : Kind) → 5 < kind_number k → P k resource) where
+  by-sort : (k : Kind) → 3 < kind_number k → r.kind ≡ k → P k (sort_of r)
   unfolding sort_of
-  by-sort k h e =
-      elim (decided (eqb r.kind 4)) [
-        | inl p ↦ rw (p, sym e ∙ eqb-true r.kind 4 p) outs
-        | inr p ↦ elim (decided (eqb r.kind 5)) [
-          | inl q ↦ rw (p, q, sym e ∙ eqb-true r.kind 5 q) ins
-          | inr q ↦ let a = eqb-false r.kind 4 p in let b = eqb-false r.kind 5 q in rw (p, q) (resources k (omega arith))
-        ]
-      ]
+  by-sort k h e = rw e (go k h)
+    where
+      go : (k : Kind) → 3 < kind_number k → P k (sort_for k)
+      go T.Stop h = absurd (omega arith)
+      go T.New h = absurd (omega arith)
+      go T.Par h = absurd (omega arith)
+      go T.Choice h = absurd (omega arith)
+      go T.Out h = outs
+      go T.In h = ins
+      go T.Resource h = resources T.Resource (omega arith)
+      go (T.Other k) h = resources (T.Other k) (omega arith)
 
 module _ (r : Record) where
   -- ---- what the kind says
 
-  pub stop-kind : eqb r.kind 0 ≡ is_stop (node_of r)
+  pub stop-kind : eqb (kind_number r.kind) 0 ≡ is_stop (node_of r)
   unfolding is_stop
-  stop-kind = by_kind r (λ k n. eqb k 0 ≡ is_stop n) refl refl refl refl (λ k h. other k 0 (omega arith))
+  stop-kind = by_kind r (λ k n. eqb (kind_number k) 0 ≡ is_stop n) refl refl refl refl (λ k h. other (kind_number k) 0 (omega arith))
 
-  pub new-kind : eqb r.kind 1 ≡ is_new_node (node_of r)
+  pub new-kind : eqb (kind_number r.kind) 1 ≡ is_new_node (node_of r)
   unfolding is_new_node
-  new-kind = by_kind r (λ k n. eqb k 1 ≡ is_new_node n) refl refl refl refl (λ k h. other k 1 (omega arith))
+  new-kind = by_kind r (λ k n. eqb (kind_number k) 1 ≡ is_new_node n) refl refl refl refl (λ k h. other (kind_number k) 1 (omega arith))
 
-  pub par-kind : eqb r.kind 2 ≡ is_par (node_of r)
+  pub par-kind : eqb (kind_number r.kind) 2 ≡ is_par (node_of r)
   unfolding is_par
-  par-kind = by_kind r (λ k n. eqb k 2 ≡ is_par n) refl refl refl refl (λ k h. other k 2 (omega arith))
+  par-kind = by_kind r (λ k n. eqb (kind_number k) 2 ≡ is_par n) refl refl refl refl (λ k h. other (kind_number k) 2 (omega arith))
 
-  pub choice-kind : eqb r.kind 3 ≡ is_choice (node_of r)
+  pub choice-kind : eqb (kind_number r.kind) 3 ≡ is_choice (node_of r)
   unfolding is_choice
-  choice-kind = by_kind r (λ k n. eqb k 3 ≡ is_choice n) refl refl refl refl (λ k h. other k 3 (omega arith))
+  choice-kind = by_kind r (λ k n. eqb (kind_number k) 3 ≡ is_choice n) refl refl refl refl (λ k h. other (kind_number k) 3 (omega arith))
 
-  pub continues-kind : ltb 0 r.kind ≡ not (is_stop (node_of r))
+  pub continues-kind : ltb 0 (kind_number r.kind) ≡ not (is_stop (node_of r))
   unfolding is_stop
-  continues-kind = by_kind r (λ k n. ltb 0 k ≡ not (is_stop n)) refl refl refl refl (λ k h. lt-ltb 0 k (omega arith))
+  continues-kind = by_kind r (λ k n. ltb 0 (kind_number k) ≡ not (is_stop n)) refl refl refl refl (λ k h. lt-ltb 0 (kind_number k) (omega arith))
 
-  pub agent-kind : leb 4 r.kind ≡ is_agent (node_of r)
+  pub agent-kind : leb 4 (kind_number r.kind) ≡ is_agent (node_of r)
   unfolding is_agent
-  agent-kind = by_kind r (λ k n. leb 4 k ≡ is_agent n) refl refl refl refl (λ k h. le-leb 4 k (omega arith))
+  agent-kind = by_kind r (λ k n. leb 4 (kind_number k) ≡ is_agent n) refl refl refl refl (λ k h. le-leb 4 (kind_number k) (omega arith))
 
-  pub sends-kind : eqb r.kind 4 ≡ is_out (node_of r)
+  pub sends-kind : eqb (kind_number r.kind) 4 ≡ is_out (node_of r)
   unfolding is_out
   sends-kind =
-      by_kind r (λ k n. r.kind ≡ k → eqb k 4 ≡ is_out n) (λ e. refl) (λ e. refl) (λ e. refl) (λ e. refl)
-      (λ k h e. by-sort r (λ j s. eqb j 4 ≡ is_out (Node.agent s r.name (args_of r) r.left)) refl refl (λ j l. other j 4 (omega arith)) k h e) refl
+      by_kind r (λ k n. r.kind ≡ k → eqb (kind_number k) 4 ≡ is_out n) (λ e. refl) (λ e. refl) (λ e. refl) (λ e. refl)
+      (λ k h e. by-sort r (λ j s. eqb (kind_number j) 4 ≡ is_out (Node.agent s r.name (args_of r) r.left)) refl refl (λ j l. other (kind_number j) 4 (omega arith)) k h e) refl
 
-  pub receives-kind : leb 5 r.kind ≡ is_receiver (node_of r)
+  pub receives-kind : leb 5 (kind_number r.kind) ≡ is_receiver (node_of r)
   unfolding is_receiver receives
   receives-kind =
-      by_kind r (λ k n. r.kind ≡ k → leb 5 k ≡ is_receiver n) (λ e. refl) (λ e. refl) (λ e. refl) (λ e. refl)
-      (λ k h e. by-sort r (λ j s. leb 5 j ≡ is_receiver (Node.agent s r.name (args_of r) r.left)) refl refl (λ j l. le-leb 5 j (omega arith)) k h e) refl
+      by_kind r (λ k n. r.kind ≡ k → leb 5 (kind_number k) ≡ is_receiver n) (λ e. refl) (λ e. refl) (λ e. refl) (λ e. refl)
+      (λ k h e. by-sort r (λ j s. leb 5 (kind_number j) ≡ is_receiver (Node.agent s r.name (args_of r) r.left)) refl refl (λ j l. le-leb 5 (kind_number j) (omega arith)) k h e) refl
 
-  pub resource-kind : leb 6 r.kind ≡ is_resource (node_of r)
+  pub resource-kind : leb 6 (kind_number r.kind) ≡ is_resource (node_of r)
   unfolding is_resource
   resource-kind =
-      by_kind r (λ k n. r.kind ≡ k → leb 6 k ≡ is_resource n) (λ e. refl) (λ e. refl) (λ e. refl) (λ e. refl)
-      (λ k h e. by-sort r (λ j s. leb 6 j ≡ is_resource (Node.agent s r.name (args_of r) r.left)) refl refl (λ j l. le-leb 6 j (omega arith)) k h e) refl
+      by_kind r (λ k n. r.kind ≡ k → leb 6 (kind_number k) ≡ is_resource n) (λ e. refl) (λ e. refl) (λ e. refl) (λ e. refl)
+      (λ k h e. by-sort r (λ j s. leb 6 (kind_number j) ≡ is_resource (Node.agent s r.name (args_of r) r.left)) refl refl (λ j l. le-leb 6 (kind_number j) (omega arith)) k h e) refl
 
   -- ---- node by node, without a kind
 

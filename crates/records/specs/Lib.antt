@@ -1,2 +1,4 @@
 pub mod Record
 pub mod Kinds
+pub mod ArrayFile
+pub mod FirstFailing

@@ -1,13 +1,15 @@
 -- The rules by the checker's own lists are the model's, and over lists that stand for the table of two files they are the rules of that table.
 use Prim.Native.Nat.{ℕ, ◌+◌, ◌<◌}
-use native.Mathlib.Numerals.{add-one}
 use native.Mathlib.Omega.{arith}
 use mathlib.Core.Path.{◌≡◌, refl, sym, ap, ◌∙◌}
-use mathlib.Core.Bool.{Bool, true, false, false≢true, true≢false}
+use mathlib.Core.Bool.{Bool, true, false}
 use mathlib.Core.List.{List, [], ◌∷◌}
 use lib.Dec.{leb}
 use lib.ListN.{get_or}
 use borrow.Author.Tests.{ltb-true, lt-ltb}
+use Rattle.std.specs.Prelude.{Result, Err}
+use Rattle.std.specs.Result.{IsErrAnd}
+use Rattle.std.proofs.lemmas.Result.{err_from_is_err_and}
 use Rattle.laws.specs.Search.{clear, hit, test, and_then}
 use Rattle.laws.proofs.Search.{implies, implied, same_test, clear-test, hit-test, first-pass, first-here, first-same, every_true, true-every}
 use Rattle.laws.proofs.Search.{clear-and_then, hit-and_then}
@@ -15,7 +17,7 @@ use Rattle.wire.proofs.Laws.{u16-small}
 use Rattle.model.specs.Tree.{Array}
 use Rattle.model.specs.Formed.{WellFormed}
 use Rattle.model.specs.Same.{Alike}
-use Rattle.model.specs.Rules.{Table, together, Named, SetsAgree, Broken, Verdict, at, check1, check2, arguments3, check3, balances4, check4, check5, verdict}
+use Rattle.model.specs.Rules.{Table, together, Named, SetsAgree, Verdict, at, check1, check2, arguments3, check3, balances4, check4, check5, verdict}
 use Rattle.model.proofs.Tree.{agent-inside}
 use Rattle.model.proofs.Sets.{met-each, each-met}
 use Rattle.model.proofs.Alike.{check3-alike, check4-alike, verdict-alike}
@@ -25,12 +27,12 @@ use Rattle.layout.specs.declared.Sizes.{Sizes}
 use Rattle.layout.specs.Table.{table_of, IsTable}
 use Rattle.layout.proofs.Laws.{claims-lie}
 use Rattle.claims.proofs.Laws.{claims-named, sets-agree, claims-rise}
-use Rattle.pairs.specs.declared.Place.TheVariants.{At}
-use Rattle.pairs.specs.Pairs.{list_table, at_pair, pairs_of, placed}
+use Rattle.pairs.specs.declared.Weighing.{Weighing}
+use Rattle.pairs.specs.Pairs.{list_table, at_pair, pairs_of}
+use Rattle.pairs.specs.Weighing.{array_weighed, table_beside}
 use Rattle.lists.specs.Listed.{Listed}
-use Rattle.rules.specs.declared.Ruling.{Ruling}
-use Rattle.rules.specs.declared.Ruling.TheVariants.{Held, Rule1, Rule2, Rule3, Rule4, Rule5}
-use Rattle.rules.specs.Ruling.{ruled, is_held, rule_below, own_marked, root_fits, claim_holds, set_holds, ClaimsListed, AllListed, claimed}
+use Rattle.rules.specs.declared.Broken.{Broken}
+use Rattle.rules.specs.Ruling.{broken_of, ruled, rule_below, own_marked, root_fits, claim_holds, set_holds, ClaimsListed, AllListed, claimed}
 
 -- ---- a loop passes place k, or stops there
 
@@ -43,28 +45,14 @@ module _ (r : ℕ) (p : ℕ → Bool) (k : ℕ) (e : rule_below k r p ≡ clear)
 
 -- ---- one rule after another
 
--- a ruling that is held lets the search go on; any other ends it
-pub ends : (f g : Verdict) (x : Ruling) → ruled x ≡ f → is_held x ≡ false → ruled x ≡ and_then f g
-ends f g x e n = broken x n (λ b h. h ∙ sym (hit-and_then f g b (sym e ∙ h)))
-  where
-    broken : (x : Ruling) → is_held x ≡ false → {Y : Type 0} → ((b : Broken) → ruled x ≡ hit b → Y) → Y
-    broken Held n k = absurd (true≢false n)
-    broken (Rule1 o) n k = k _ refl
-    broken (Rule2 o) n k = k _ refl
-    broken (Rule3 p q o) n k = k _ refl
-    broken (Rule4 p q o) n k = k _ refl
-    broken (Rule5 o) n k = k _ refl
+-- a rule that is broken ends the search, as the answer that is handed on; one that is kept lets it go on
+pub ends : {f : Verdict} (g : Verdict) (b : Broken) (r : Result (Unit {0}) Broken) → ruled (Err b) ≡ f → IsErrAnd r (λ y. y ≡ b) → ruled r ≡ and_then f g
+ends {f} g b r e handed =
+    let p = err_from_is_err_and r handed in
+    rw (p.1, p.2) (sym (hit-and_then f g (broken_of b) (sym e)))
 
-pub goes_on : (f g : Verdict) (x : Ruling) {y : Verdict} → ruled x ≡ f → is_held x ≡ true → y ≡ g → y ≡ and_then f g
-goes_on f g x e h q = q ∙ sym (clear-and_then f g (sym e ∙ held x h))
-  where
-    held : (x : Ruling) → is_held x ≡ true → ruled x ≡ clear
-    held Held h = refl
-    held (Rule1 o) h = absurd (false≢true h)
-    held (Rule2 o) h = absurd (false≢true h)
-    held (Rule3 p q o) h = absurd (false≢true h)
-    held (Rule4 p q o) h = absurd (false≢true h)
-    held (Rule5 o) h = absurd (false≢true h)
+goes_on : {f : Verdict} (g : Verdict) {y : Verdict} → clear ≡ f → y ≡ g → y ≡ and_then f g
+goes_on {f} g e q = q ∙ sym (clear-and_then f g (sym e))
 
 -- ---- rules 3 and 4 are the searches over pairs
 
@@ -76,49 +64,66 @@ pub pairs-four : (a : Array) (t : Table) → pairs_of 4 a t ≡ check4 a t
 unfolding check4 balances4 at_pair
 pairs-four a t = refl
 
--- a pair's place by rule 3 counts its argument from 1
-pub place-three : (p q n : ℕ) → ruled (Rule3 p q (n + 1)) ≡ placed 3 (At p q n)
-place-three p q n = ap (λ (k : ℕ). hit (at 3 (p ∷ q ∷ k ∷ []))) (add-one n)
-
 -- ---- over the table that the lists and the claims of the file stand for
 
-module _ {f : List ℕ} {t : Trailer} {s : List ℕ} {z : Sizes} {rows loads bounds : List ℕ} (all : AllListed f t s z rows loads bounds) where
+module _ (w : Weighing) (rows s : List ℕ) (z : Sizes) where
   abbrev a : Array
-  a = array_of f t
+  a = array_weighed w
 
   abbrev L : Table
-  L = list_table rows loads bounds z.balances
+  L = table_beside w rows
+
+  abbrev C : Table
+  C = claimed L s z
 
   -- rows and balances are the lists'
-  same : Alike a L (claimed L s z)
+  same : Alike a L C
   same = record { rows = λ v o h l. refl; many = refl; bounds = λ k h. refl; weights = λ k i h e. refl }
 
-  pub rule-one : rule_below t.names 1 (own_marked a rows) ≡ check1 a (claimed L s z)
+  pub rule-one : rule_below w.array.trailer.names 1 (own_marked a rows) ≡ check1 a C
   unfolding check1
   rule-one = refl
 
-  pub rule-two : rule_below z.balances 2 (root_fits loads bounds) ≡ check2 a (claimed L s z)
+  pub rule-two : rule_below w.balances 2 (root_fits w.loads.now w.bounds.now) ≡ check2 a C
   unfolding check2
   rule-two =
-      first-same z.balances _ _ (λ k h.
-      ap (λ (x : ℕ). test (leb x (get_or bounds k 0)) (at 2 (k ∷ []))) (all.given.weighed.weighs 0 k all.given.read.formed.some h))
+      first-same w.balances _ _ (λ k h.
+      ap (λ (x : ℕ). test (leb x (get_or w.bounds.now k 0)) (at 2 (k ∷ []))) (w.is_weighed.weighed.weighs 0 k w.is_weighed.read.formed.some h))
 
-  pub rule-three : check3 a L ≡ check3 a (claimed L s z)
-  rule-three = check3-alike a all.given.read.formed L (claimed L s z) same
+  pub rule-three : pairs_of 3 a L ≡ check3 a C
+  rule-three = pairs-three a L ∙ check3-alike a w.is_weighed.read.formed L C same
 
-  pub rule-four : check4 a L ≡ check4 a (claimed L s z)
-  rule-four = check4-alike a all.given.read.formed L (claimed L s z) same
+  pub rule-four : pairs_of 4 a L ≡ check4 a C
+  rule-four = pairs-four a L ∙ check4-alike a w.is_weighed.read.formed L C same
 
   -- a set is met where each of its claims holds alone
-  pub rule-five : rule_below z.claims 5 (set_holds (table_of s z) (λ e. claim_holds loads bounds ((table_of s z).claim e))) ≡ check5 a (claimed L s z)
+  pub rule-five : SetsAgree (table_of s z)
+      → rule_below z.claims 5 (set_holds (table_of s z) (λ e. claim_holds w.loads.now w.bounds.now ((table_of s z).claim e))) ≡ check5 a C
   unfolding check5 together
-  rule-five =
-      let agree : SetsAgree (claimed L s z) = all.sets in
+  rule-five sets =
+      let agree : SetsAgree C = sets in
       first-same z.claims _ _ (λ c h.
       ap (λ (b : Bool). test b (at 5 (c ∷ [])))
       (same_test _ _
-      (λ e. lt-ltb _ _ (each-met (claimed L s z) agree c h (λ d k g. ltb-true _ _ (implies _ _ (every_true z.claims _ e d k) g))))
-      (λ e. true-every z.claims _ (λ d k. implied _ _ (λ g. lt-ltb _ _ (met-each (claimed L s z) agree c h (ltb-true _ _ e) d k g))))))
+      (λ e. lt-ltb _ _ (each-met C agree c h (λ d k g. ltb-true _ _ (implies _ _ (every_true z.claims _ e d k) g))))
+      (λ e. true-every z.claims _ (λ d k. implied _ _ (λ g. lt-ltb _ _ (met-each C agree c h (ltb-true _ _ e) d k g))))))
+
+  -- the verdict is what the next rule starts, where those before it are kept
+  module _ {y : Verdict} (one : clear ≡ rule_below w.array.trailer.names 1 (own_marked a rows)) where
+    pub past-one : y ≡ and_then (check2 a C) (and_then (check3 a C) (and_then (check4 a C) (check5 a C))) → y ≡ verdict a C
+    unfolding verdict
+    past-one = goes_on _ (one ∙ rule-one)
+
+    module _ (two : clear ≡ rule_below w.balances 2 (root_fits w.loads.now w.bounds.now)) where
+      pub past-two : y ≡ and_then (check3 a C) (and_then (check4 a C) (check5 a C)) → y ≡ verdict a C
+      past-two q = past-one (goes_on _ (two ∙ rule-two) q)
+
+      module _ (three : clear ≡ pairs_of 3 a L) where
+        pub past-three : y ≡ and_then (check4 a C) (check5 a C) → y ≡ verdict a C
+        past-three q = past-two (goes_on _ (three ∙ rule-three) q)
+
+        pub past-four : clear ≡ pairs_of 4 a L → y ≡ check5 a C → y ≡ verdict a C
+        past-four four q = past-three (goes_on _ (four ∙ rule-four) q)
 
 -- ---- the lists of two files that were read
 
@@ -152,8 +157,8 @@ module _ (f : List ℕ) (t : Trailer) (s : List ℕ) (z : Sizes) (table : IsTabl
         rise = claims-rise T table.order;
       }
 
-  pub filled : AllListed f t s z rows loads bounds
-  filled = record { given = listed.given; claims = claims; sets = sets-agree T table.sets }
+  pub filled : AllListed s z loads bounds
+  filled = record { claims = claims; sets = sets-agree T table.sets }
 
   -- the verdict over the lists is that over the table of the bytes
   pub judged : verdict b (claimed (list_table rows loads bounds z.balances) s z) ≡ verdict b T

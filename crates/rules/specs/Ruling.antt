@@ -1,37 +1,28 @@
 -- What the checker's rules answer: 01's number and place figures for each case. Rules 1, 2 and 5 by the checker's own lists.
-use Rattle.std.specs.Prelude.{ℕ, ◌+◌, ◌*◌, ◌<◌, Bool, true, false, not, ◌||◌, List, [], ◌∷◌, leb, ltb, length, get_or}
-use Rattle.laws.specs.Search.{clear, hit, test, and_then, first, every}
+use Rattle.std.specs.Prelude.{ℕ, ◌+◌, ◌*◌, ◌<◌, Bool, not, ◌||◌, Result, Ok, Err, List, [], ◌∷◌, leb, ltb, length, get_or}
+use Rattle.laws.specs.Search.{clear, hit, test, first, every}
 use Rattle.marks.specs.Marks.{marked}
 use Rattle.model.specs.Tree.{Array, is_new}
 use Rattle.model.specs.declared.Claim.{Claim}
-use Rattle.model.specs.Rules.{Table, together, SetsAgree, Rising, Verdict, at, check3, check4, check5}
-use Rattle.records.specs.declared.Trailer.{Trailer}
+use Rattle.model.specs.Rules as M
+use Rattle.model.specs.Rules.{Table, together, SetsAgree, Rising, Verdict, at}
 use Rattle.layout.specs.declared.Sizes.{Sizes}
 use Rattle.layout.specs.Table.{table_of, ClaimsLie}
 use Rattle.loads.specs.Loads.{load_in, Half}
-use Rattle.pairs.specs.Pairs.{setting, Given}
-use Rattle.rules.specs.declared.Ruling.{Ruling}
-use Rattle.rules.specs.declared.Ruling.TheVariants.{Held, Rule1, Rule2, Rule3, Rule4, Rule5}
+use Rattle.rules.specs.declared.Broken.{Broken}
+use Rattle.rules.specs.declared.Broken.TheVariants.{Rule1, Rule2, Rule3, Rule4, Rule5}
 
-abbrev pub ruled : Ruling → Verdict
-ruled Held = clear
-ruled (Rule1 o) = hit (at 1 (o ∷ []))
-ruled (Rule2 k) = hit (at 2 (k ∷ []))
-ruled (Rule3 p q n) = hit (at 3 (p ∷ q ∷ n ∷ []))
-ruled (Rule4 p q k) = hit (at 4 (p ∷ q ∷ k ∷ []))
-ruled (Rule5 c) = hit (at 5 (c ∷ []))
+-- a broken rule with its place figures
+abbrev pub broken_of : Broken → M.Broken
+broken_of (Rule1 o) = at 1 (o ∷ [])
+broken_of (Rule2 k) = at 2 (k ∷ [])
+broken_of (Rule3 p q n) = at 3 (p ∷ q ∷ n ∷ [])
+broken_of (Rule4 p q k) = at 4 (p ∷ q ∷ k ∷ [])
+broken_of (Rule5 c) = at 5 (c ∷ [])
 
-abbrev pub is_held : Ruling → Bool
-is_held Held = true
-is_held (Rule1 o) = false
-is_held (Rule2 k) = false
-is_held (Rule3 p q n) = false
-is_held (Rule4 p q k) = false
-is_held (Rule5 c) = false
-
--- the rest of the verdict's search, from rule 3 on
-abbrev pub from3 : Array → Table → Verdict
-from3 a t = and_then (check3 a t) (and_then (check4 a t) (check5 a t))
+abbrev pub ruled : Result (Unit {0}) Broken → Verdict
+ruled (Ok x) = clear
+ruled (Err b) = hit (broken_of b)
 
 -- ---- rules 1, 2 and 5 by the lists
 
@@ -66,10 +57,9 @@ pub record ClaimsListed (s : List ℕ) (z : Sizes) (loads bounds : List ℕ) : T
   pub listed : (c : ℕ) → c < z.claims → ClaimListed loads bounds ((table_of s z).claim c)
   pub rise : Rising (table_of s z)
 
--- ---- all rules: over a file that was read, lists that stand for a table, and the claims of a table file
+-- ---- all rules: over a weighing beside rows, and the claims of a table file
 
-pub record AllListed (f : List ℕ) (t : Trailer) (s : List ℕ) (z : Sizes) (rows loads bounds : List ℕ) : Type 0 where
-  pub given : Given (setting f t z.balances rows loads bounds)
+pub record AllListed (s : List ℕ) (z : Sizes) (loads bounds : List ℕ) : Type 0 where
   pub claims : ClaimsListed s z loads bounds
   pub sets : SetsAgree (table_of s z)
 

@@ -1,81 +1,41 @@
--- The argument bytes of a record: read one by one, and those past the arity as one number.
+-- Arguments read one by one, and the argument bytes past the arity as one number.
 use Prim.Native.Nat.{ℕ, zero, suc, ◌+◌, ◌*◌, ◌/◌, ◌^◌, ◌≤◌, ◌<◌}
-use native.Mathlib.Nat.{add-zero, add_assoc, mul-suc, div-lt_iff_lt-mul, not-suc-le-zero, le_of_suc-le-suc}
+use native.Mathlib.Nat.{add-zero, zero-add, add_assoc, mul-suc, div-lt_iff_lt-mul}
 use native.Mathlib.Omega.{arith}
 use mathlib.Core.Path.{◌≡◌, refl, sym, ap, ◌∙◌}
 use mathlib.Core.Logic.{⊎_elim}
 use mathlib.Core.Bool.{Bool, true, false, ◌&&◌, ◌||◌}
 use mathlib.Core.List.{List, [], ◌∷◌}
 use lib.Dec.{eqb, ltb}
-use lib.ListN.{length, get_or, take, drop}
+use lib.ListN.{length, get_or}
 use lib.Pow.{pow_pos, pow_mono}
-use lib.Seq.{get_or-take, get_or-drop}
-use borrow.Author.Tests.{eq-eqb, ltb-false}
+use borrow.Author.Tests.{eq-eqb, ltb-false, lt-ltb}
 use Rattle.laws.specs.Search.{every, any, sum}
 use Rattle.laws.specs.Lists.{one, all, has, times}
-use Rattle.laws.proofs.Search.{decided, or_right, every-zero, every-cons, every-same, true-every, any-zero, any-cons, any_same, sum-zero, sum-cons, sum_same}
+use Rattle.laws.proofs.Search.{decided, or_right, every-zero, every-cons, true-every, any-zero, any-cons, sum-zero, sum-cons}
+use Rattle.std.specs.Int.{w64, byte_worth, from_le_bytes}
 use Rattle.wire.specs.Numbers.{u32_at, u64_at}
 use Rattle.records.specs.declared.Record.{Record}
-use Rattle.records.specs.declared.Trailer.{Trailer}
-use Rattle.records.specs.Record.{args_of, record_of}
-use Rattle.records.proofs.Laws.{eight-args}
 use Rattle.fields.specs.Fields.{rest_zero}
-use Rattle.scans.specs.Pass.{arg_at, RestZero}
 
--- ---- the front of a list, by position
+-- ---- a list, by position
 
 module _ (f : ℕ → Bool) where
-  every_front : (xs : List ℕ) (n : ℕ) → n ≤ length xs → every n (λ k. f (get_or xs k 0)) ≡ all f (take n xs)
+  pub every_all : (xs : List ℕ) → every (length xs) (λ k. f (get_or xs k 0)) ≡ all f xs
   unfolding all
-  every_front xs zero h = every-zero _
-  every_front [] (suc n) h = absurd (not-suc-le-zero h)
-  every_front (x ∷ xs) (suc n) h = every-cons n _ ∙ ap (λ (b : Bool). f x && b) (every_front xs n (le_of_suc-le-suc h))
+  every_all [] = every-zero _
+  every_all (x ∷ xs) = every-cons (length xs) _ ∙ ap (λ (b : Bool). f x && b) (every_all xs)
 
 module _ (v : ℕ) where
-  any-front : (xs : List ℕ) (n : ℕ) → n ≤ length xs → any n (λ k. eqb v (get_or xs k 0)) ≡ has (take n xs) v
+  pub any_has : (xs : List ℕ) → any (length xs) (λ k. eqb v (get_or xs k 0)) ≡ has xs v
   unfolding has
-  any-front xs zero h = any-zero _
-  any-front [] (suc n) h = absurd (not-suc-le-zero h)
-  any-front (x ∷ xs) (suc n) h = any-cons n _ ∙ ap (λ (b : Bool). eqb v x || b) (any-front xs n (le_of_suc-le-suc h))
+  any_has [] = any-zero _
+  any_has (x ∷ xs) = any-cons (length xs) _ ∙ ap (λ (b : Bool). eqb v x || b) (any_has xs)
 
-  sum-front : (xs : List ℕ) (n : ℕ) → n ≤ length xs → sum n (λ k. one (eqb v (get_or xs k 0))) ≡ times (take n xs) v
+  pub sum_times : (xs : List ℕ) → sum (length xs) (λ k. one (eqb v (get_or xs k 0))) ≡ times xs v
   unfolding times
-  sum-front xs zero h = sum-zero _
-  sum-front [] (suc n) h = absurd (not-suc-le-zero h)
-  sum-front (x ∷ xs) (suc n) h = sum-cons n _ ∙ ap (λ (m : ℕ). one (eqb v x) + m) (sum-front xs n (le_of_suc-le-suc h))
-
--- ---- the arguments of node i's record
-
-module _ (s : List ℕ) (t : Trailer) (i : ℕ) (fits : t.start + 16 * i + 15 < length s) where
-  abbrev at : ℕ
-  at = t.start + 16 * i + 8
-
-  abbrev r : Record
-  r = record_of s t i
-
-  arg_is : (k : ℕ) → k < 8 → get_or r.args k 0 ≡ arg_at s at k
-  arg_is k h = get_or-take 8 (drop at s) k 0 h ∙ get_or-drop at s k 0
-
-  module _ (small : r.arity ≤ 8) where
-    room : r.arity ≤ length r.args
-    room = let e = eight-args s (t.start + 16 * i) fits in omega arith
-
-    pub args-all : (f : ℕ → Bool) → every r.arity (λ k. f (arg_at s at k)) ≡ all f (args_of r)
-    args-all f = every-same r.arity _ _ (λ k h. ap f (sym (arg_is k (omega arith)))) ∙ every_front f r.args r.arity room
-
-    pub args_has : (v : ℕ) → any r.arity (λ k. eqb v (arg_at s at k)) ≡ has (args_of r) v
-    args_has v = any_same r.arity _ _ (λ k h. ap (eqb v) (sym (arg_is k (omega arith)))) ∙ any-front v r.args r.arity room
-
-    pub args-times : (v : ℕ) → sum r.arity (λ k. one (eqb v (arg_at s at k))) ≡ times (args_of r) v
-    args-times v =
-        sum_same r.arity _ _ (λ k h. ap (λ (x : ℕ). one (eqb v x)) (sym (arg_is k (omega arith)))) ∙ sum-front v r.args r.arity room
-
-  pub rest-zeros : RestZero s at r.arity → every 8 (rest_zero r) ≡ true
-  rest-zeros zeros =
-      true-every 8 (rest_zero r) (λ k h.
-      ⊎_elim (λ (e : ltb k r.arity ≡ true). rw e)
-      (λ (e : ltb k r.arity ≡ false).
-      or_right (ltb k r.arity) _ (eq-eqb _ 0 (arg_is k h ∙ zeros k (ltb-false k r.arity e) h))) (decided (ltb k r.arity)))
+  sum_times [] = sum-zero _
+  sum_times (x ∷ xs) = sum-cons (length xs) _ ∙ ap (λ (m : ℕ). one (eqb v x) + m) (sum_times xs)
 
 -- ---- a number of eight bytes
 
@@ -95,7 +55,7 @@ byte_le s i k h = go k h
     go (suc (suc (suc (suc (suc (suc (suc (suc k)))))))) h = absurd (omega arith)
 
 -- a number without high bytes has zeros there
-pub high_zero : (s : List ℕ) (i n k : ℕ) → u64_at s i / 2 ^ (8 * n) ≡ 0 → n ≤ k → k < 8 → get_or s (i + k) 0 ≡ 0
+high_zero : (s : List ℕ) (i n k : ℕ) → u64_at s i / 2 ^ (8 * n) ≡ 0 → n ≤ k → k < 8 → get_or s (i + k) 0 ≡ 0
 high_zero s i n k e l h = go (get_or s (i + k) 0) refl
   where
     go : (b : ℕ) → get_or s (i + k) 0 ≡ b → get_or s (i + k) 0 ≡ 0
@@ -106,3 +66,19 @@ high_zero s i n k e l h = go (get_or s (i + k) 0) refl
         let byte = byte_le s i k h in
         let split = ap (λ (x : ℕ). 2 ^ (8 * k) * x) q ∙ mul-suc (2 ^ (8 * k)) b in
         absurd (omega arith)
+
+number_of_args : (args : List ℕ) → from_le_bytes w64 args ≡ u64_at args 0
+unfolding u64_at u32_at
+number_of_args args = let e : byte_worth 0 (get_or args 0 0) ≡ get_or args 0 0 = refl in omega arith
+
+-- the argument bytes past the arity are zero where their number without the bytes before is
+pub rest-zeros : (r : Record) → from_le_bytes w64 r.args / 2 ^ (8 * r.arity) ≡ 0 → every 8 (rest_zero r) ≡ true
+rest-zeros r e =
+    true-every 8 (rest_zero r) (λ k h.
+    ⊎_elim (λ (q : ltb k r.arity ≡ true). rw q)
+    (λ (q : ltb k r.arity ≡ false).
+    or_right (ltb k r.arity) _ (eq-eqb _ 0 (ap (λ (n : ℕ). get_or r.args n 0) (sym (zero-add k))
+    ∙ high_zero r.args 0 r.arity k (ap (λ (n : ℕ). n / 2 ^ (8 * r.arity)) (sym (number_of_args r.args)) ∙ e) (ltb-false k r.arity q) h))) (decided (ltb k r.arity)))
+
+pub used-up : (r : Record) → 8 ≤ r.arity → every 8 (rest_zero r) ≡ true
+used-up r e = true-every 8 (rest_zero r) (λ k h. rw (lt-ltb k r.arity (omega arith)))

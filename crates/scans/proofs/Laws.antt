@@ -17,15 +17,15 @@ use Rattle.laws.proofs.Lists.{All-has, all-has, has_all, has-times, times-has, s
 use Rattle.marks.specs.Marks.{marked}
 use Rattle.marks.proofs.Laws.{marked-none}
 use Rattle.model.specs.Tree.{Array, Node, node_at}
-use Rattle.model.specs.Formed.{children, binds, uses, fields_to, binders, reaches, in_reach}
+use Rattle.model.specs.Formed.{refuse, children, binds, uses, fields_to, binders, reaches, in_reach}
 use Rattle.model.specs.Formed.{refusal8, refusal9, refusal10, refusal11, refusal12}
 use Rattle.model.proofs.Tree.{parent-below}
 use Rattle.model.proofs.Reach.{parent, reach-root, reach-child}
 use Rattle.records.specs.declared.Trailer.{Trailer}
 use Rattle.records.specs.Record.{record_of, node_of, array_of}
 use Rattle.records.proofs.Laws.{node-of}
-use Rattle.fields.specs.Fields.{bad_at, first_bad}
-use Rattle.fields.proofs.Laws.{first-bad-6, first-bad-7, first-bad-8}
+use Rattle.fields.specs.Fields.{shape_fits, unused_zero, children_fit, refusal6, refusal7}
+use Rattle.fields.proofs.Laws.{refusal8-by}
 use Rattle.counts.proofs.Laws.{Counted, counted_none, counted-more, counted-below, zeros-below, few-args, binds-le, adds, counted-all}
 use Rattle.scopes.proofs.Table.{uses-bytes, binds-bytes}
 use Rattle.scans.proofs.Node.{no-child}
@@ -63,9 +63,9 @@ Linked width s t reach parents j =
 
 -- the tables have room for width nodes
 pub record Scanned (width : ℕ) (s : List ℕ) (t : Trailer) (reach parents bound : List ℕ) (j : ℕ) : Type 0 where
-  pub shapes : first j (bad_at 6 s t) ≡ clear
-  pub unused : first j (bad_at 7 s t) ≡ clear
-  pub fits : first j (bad_at 8 s t) ≡ clear
+  pub shapes : first j (λ i. refuse 6 i (shape_fits (record_of s t i))) ≡ clear
+  pub unused : first j (λ i. refuse 7 i (unused_zero (record_of s t i))) ≡ clear
+  pub fits : first j (λ i. refuse 8 i (children_fit t.nodes i (record_of s t i))) ≡ clear
   pub rows : length reach ≡ 4 * width
   pub fields : Counted (replicate width 0) parents (adds children s t) j
   pub once : (i : ℕ) → i < j → i ≢ 0 → get_or parents i 0 ≡ 1
@@ -161,7 +161,6 @@ module _ (width : ℕ) (s : List ℕ) (t : Trailer) (reach parents bound : List 
 
     pub scanned-step : length reach' ≡ length reach → length parents' ≡ length parents → length bound' ≡ length bound
         → Scanned width s t reach' parents' bound' (j + 1)
-    unfolding bad_at
     scanned-step er ep eb = record {
       shapes = first-pass _ j h.shapes (clear-test _ _ fit.shape);
       unused = first-pass _ j h.unused (clear-test _ _ fit.zeros);
@@ -198,8 +197,7 @@ module _ (width : ℕ) (s : List ℕ) (t : Trailer) (reach parents bound : List 
   a = array_of s t
 
   fit : refusal8 a ≡ clear
-  unfolding first_bad
-  fit = sym (first-bad-8 s t) ∙ h.fits
+  fit = sym (refusal8-by s t) ∙ h.fits
 
   single : refusal9 a ≡ clear
   unfolding refusal9 fields_to
@@ -281,10 +279,10 @@ module _ (width : ℕ) (s : List ℕ) (t : Trailer) (reach parents bound : List 
             bound-below b.0 v b.1 b.2
 
     pub scanned-clear : Clear s t
-    unfolding first_bad
+    unfolding refusal6 refusal7
     scanned-clear = record {
-      shapes = sym (first-bad-6 s t) ∙ h.shapes;
-      unused = sym (first-bad-7 s t) ∙ h.unused;
+      shapes = h.shapes;
+      unused = h.unused;
       children = fit;
       parents = single;
       named = names-below;

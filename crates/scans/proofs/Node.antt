@@ -1,5 +1,5 @@
 -- What a node hands down, counts and uses, by its kind; and so that a node passes.
-use Prim.Native.Nat.{ℕ, ◌+◌, ◌*◌, ◌≤◌, ◌<◌}
+use Prim.Native.Nat.{ℕ, ◌≤◌, ◌<◌}
 use native.Mathlib.Omega.{arith}
 use mathlib.Core.Path.{◌≡◌, refl, sym, ◌∙◌}
 use mathlib.Core.Logic.{⊎_elim}
@@ -8,7 +8,7 @@ use mathlib.Core.List.{List}
 use lib.Dec.{eqb, leb, ltb}
 use lib.ListN.{length, replicate}
 use borrow.Author.Tests.{ltb-true, leb-true}
-use Rattle.laws.specs.Search.{every, any, sum}
+use Rattle.laws.specs.Search.{every}
 use Rattle.laws.specs.Lists.{one, all, has, times}
 use Rattle.laws.proofs.Search.{decided, and_split, and-join}
 use Rattle.laws.proofs.Lists.{all-has}
@@ -18,18 +18,16 @@ use Rattle.model.specs.Formed.{children, binds, uses, child_fits}
 use Rattle.marks.specs.Marks.{HasRow, marked}
 use Rattle.marks.proofs.Laws.{marked-none}
 use Rattle.records.specs.declared.Record.{Record}
-use Rattle.records.specs.declared.Trailer.{Trailer}
-use Rattle.records.specs.Record.{args_of, node_of, record_of, RecordsFit}
+use Rattle.records.specs.Record.{kind_number, args_of, node_of}
 use Rattle.records.specs.Kinds.{is_stop, is_new_node, is_par, is_choice, is_receiver}
 use Rattle.records.proofs.KindLaws as K
-use Rattle.fields.specs.Fields.{shape_fits, fields_zero, unused_zero, children_fit}
+use Rattle.fields.specs.Fields.{shape_fits, fields_zero, rest_zero, unused_zero, children_fit}
 use Rattle.counts.specs.Counts.{Grown}
 use Rattle.counts.proofs.Laws.{grown-then, times-children, times-binds}
 use Rattle.scopes.specs.Scope.{passed, pass_if, HandedDown}
 use Rattle.scopes.proofs.Laws.{binds-of, uses-of}
 use Rattle.scopes.proofs.Table.{handed-down}
-use Rattle.scans.specs.Pass.{record_fits, arg_at, RestZero, Ready, Passed}
-use Rattle.scans.proofs.Args.{args-all, args_has, args-times, rest-zeros}
+use Rattle.scans.specs.Pass.{record_fits, Ready, Passed}
 
 module _ (r : Record) where
   -- ---- the names that it uses
@@ -139,7 +137,7 @@ module _ {m i : ℕ} {reach parents binders : List ℕ} (ready : Ready m i reach
   zero-fields = (and_split (shape_fits r) _ (and_split (shape_fits r && fields_zero r) _ test).0).1
 
   pub small-arity : r.arity ≤ 8
-  small-arity = leb-true _ 8 (and_split (leb r.kind 6) _ (and_split (leb r.kind 6 && leb r.arity 8) _ shape).0).1
+  small-arity = leb-true _ 8 (and_split (leb (kind_number r.kind) 6) _ (and_split (leb (kind_number r.kind) 6 && leb r.arity 8) _ shape).0).1
 
   rows-there : (c : ℕ) → has (children (node_of r)) c ≡ true → (i < c) × HasRow reach c
   rows-there c h = let f = child-above m i r above c h in let e = ready.rows in (f.0, omega (arith, f.1))
@@ -161,13 +159,9 @@ module _ {m i : ℕ} {reach parents binders : List ℕ} (ready : Ready m i reach
       let o = child-open r.right (K.right_child r e) in
       (o.0, omega (arith, o.1), omega (arith, o.2))
 
-  module _ (s : List ℕ) (t : Trailer) (fits : RecordsFit s t) (is : r ≡ record_of s t i) (nodes : m ≡ t.nodes)
-      (rest : RestZero s (t.start + 16 * i + 8) r.arity) where
-    inside : t.start + 16 * i + 15 < length s
-    inside = let h = ready.here in omega arith
-
+  module _ (rest : every 8 (rest_zero r) ≡ true) where
     zeros : unused_zero r ≡ true
-    zeros = and-join zero-fields (rw is (rest-zeros s t i inside (rw is at rest)))
+    zeros = and-join zero-fields rest
 
     -- the record's tests and the rest, one for each kind
     passes : (reach' parents' binders' : List ℕ) → all (marked reach i) (uses (node_of r)) ≡ true → HandedDown reach reach' i (node_of r)
@@ -180,31 +174,25 @@ module _ {m i : ℕ} {reach parents binders : List ℕ} (ready : Ready m i reach
       goes : is_stop (node_of r) ≡ false
       goes = K.agent-continues r agent
 
-      pub out-passes : is_out (node_of r) ≡ true → every r.arity (λ k. marked reach i (arg_at s (t.start + 16 * i + 8) k)) ≡ true
+      pub out-passes : is_out (node_of r) ≡ true → all (marked reach i) (args_of r) ≡ true
           → reach' ≡ passed reach i r.left (replicate 4 0) 4 → Passed m i r reach parents binders reach' parents' binders
       out-passes out sent e =
-          let args = args-all s t i inside (rw is at small-arity) (marked reach i) in
           let none = K.out-binds r agent out in
-          passes reach' parents' binders (out-uses r (marked reach i) agent out channel (rw is (sym args ∙ (rw is at sent))))
+          passes reach' parents' binders (out-uses r (marked reach i) agent out channel sent)
           (rw e (one_down r goes (K.agent-one r agent) reach i (replicate 4 0) rows-there (none_row r (K.agent-opens r agent) none)))
           (one_field r goes (K.agent-one r agent) parents parents' counted)
           (none-counted r (K.agent-opens r agent) none binders)
 
       pub in-passes : is_out (node_of r) ≡ false → (row binders' : List ℕ)
-          → ((v : ℕ) → marked row 0 v ≡ any r.arity (λ k. eqb v (arg_at s (t.start + 16 * i + 8) k)))
-          → Grown binders binders' (λ v. sum r.arity (λ k. one (eqb v (arg_at s (t.start + 16 * i + 8) k))))
+          → ((v : ℕ) → marked row 0 v ≡ has (args_of r) v) → Grown binders binders' (times (args_of r))
           → reach' ≡ passed reach i r.left row 4 → Passed m i r reach parents binders reach' parents' binders'
       in-passes other row binders' marks grown e =
           let binds-args = K.in-binds r agent other in
-          let has-args : (v : ℕ) → any r.arity (λ k. eqb v (arg_at s (t.start + 16 * i + 8) k)) ≡ has (args_of r) v =
-          rw is (args_has s t i inside (rw is at small-arity)) in
-          let times-args : (v : ℕ) → sum r.arity (λ k. one (eqb v (arg_at s (t.start + 16 * i + 8) k))) ≡ times (args_of r) v =
-          rw is (args-times s t i inside (rw is at small-arity)) in
           passes reach' parents' binders' (in-uses r (marked reach i) agent other channel)
           (rw e (one_down r goes (K.agent-one r agent) reach i row rows-there
-          (args_row r (K.agent-opens r agent) binds-args row (λ v. marks v ∙ has-args v))))
+          (args_row r (K.agent-opens r agent) binds-args row marks)))
           (one_field r goes (K.agent-one r agent) parents parents' counted)
-          (args-counted r (K.agent-opens r agent) binds-args binders binders' (λ v l. omega (arith, grown v l, times-args v)))
+          (args-counted r (K.agent-opens r agent) binds-args binders binders' grown)
 
     module _ (other : is_agent (node_of r) ≡ false) where
       pub stop-passes : is_stop (node_of r) ≡ true → Passed m i r reach parents binders reach parents binders

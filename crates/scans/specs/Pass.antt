@@ -1,5 +1,5 @@
 -- What the pass promises, and what it needs and does at one node.
-use Rattle.std.specs.Prelude.{ℕ, ◌+◌, ◌*◌, ◌≤◌, ◌<◌, ◌≡◌, Bool, true, ◌&&◌, ◌||◌, List, eqb, leb, ltb, length, get_or}
+use Rattle.std.specs.Prelude.{ℕ, ◌*◌, ◌≤◌, ◌<◌, ◌≡◌, Bool, true, ◌&&◌, ◌||◌, List, eqb, leb, ltb, length, get_or}
 use Rattle.laws.specs.Search.{clear}
 use Rattle.laws.specs.Lists.{all, times}
 use Rattle.marks.specs.Marks.{marked}
@@ -26,14 +26,6 @@ pub record Clear (s : List ℕ) (t : Trailer) : Type 0 where
 -- 6, 7 and 8 at node i of m, but for the argument bytes
 abbrev pub record_fits : ℕ → ℕ → Record → Bool
 record_fits m i r = shape_fits r && fields_zero r && children_fit m i r
-
--- argument byte k of the record whose arguments start at `at`
-abbrev pub arg_at : List ℕ → ℕ → ℕ → ℕ
-arg_at s at k = get_or s (at + k) 0
-
--- the argument bytes from n on are zero
-abbrev pub RestZero : List ℕ → ℕ → ℕ → Type 0
-RestZero s at n = (k : ℕ) → n ≤ k → k < 8 → arg_at s at k ≡ 0
 
 -- name v is counted once where it is below n, and else never
 abbrev pub count_fits : List ℕ → ℕ → ℕ → Bool

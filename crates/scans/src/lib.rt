@@ -3,17 +3,18 @@
 // model and laws. The tables take 34,304 bytes of stack.
 #![tactic(auto)]
 
-ghost use Rattle.std.specs.Prelude.{◌≡◌, true, false, ℕ, ◌+◌, ◌*◌, ◌<◌, ◌≤◌, eqb, length, get_or, replicate};
-ghost use Rattle.laws.specs.Search.{every, any, sum};
-ghost use Rattle.laws.specs.Lists.{one};
+ghost use Rattle.std.specs.Prelude.{◌≡◌, true, false, ℕ, ◌*◌, ◌<◌, ◌≤◌, eqb, length, get_or};
+ghost use Rattle.laws.specs.Search.{every};
+ghost use Rattle.laws.specs.Lists.{one, all, has, times};
 ghost use Rattle.marks.specs.Marks.{HasRow, marked};
 ghost use Rattle.model.specs.Tree.{is_agent};
-ghost use Rattle.records.specs.Record.{RecordsFit, record_of, node_of};
+ghost use Rattle.records.specs.Record.{node_of};
+ghost use Rattle.fields.specs.Fields.{rest_zero};
 ghost use Rattle.counts.specs.Counts.{Grown, Below};
 ghost use Rattle.scopes.specs.Scope.{passed};
-ghost use Rattle.scans.specs.Pass.{Clear, record_fits, arg_at, RestZero, count_fits, Ready, Passed};
+ghost use Rattle.scans.specs.Pass.{Clear, record_fits, count_fits, Ready, Passed};
 
-use records::{Record, Trailer};
+use records::{ArrayFile, Record};
 
 // 6, 7 and 8 pass at node i of m, but for the argument bytes.
 fn record_fits(m: usize, i: usize, r: Record) -> bool
@@ -23,48 +24,42 @@ fn record_fits(m: usize, i: usize, r: Record) -> bool
 }
 
 // The argument bytes past the arity are zero, all at once.
-fn rest_zero(file: &[u8], at: usize, arity: usize) -> bool
-    requires { at + 7 < length file.now }
-    ensures { result ≡ true → RestZero file.now at arity }
+fn rest_zero(r: Record) -> bool
+    ensures { result ≡ true → every 8 (rest_zero r) ≡ true }
 {
-    if arity < 8 {
-        return wire::u64_at(file, at) >> (8 * arity) == 0;
+    if r.arity < 8 {
+        return u64::from_le_bytes(r.args) >> (8 * r.arity) == 0;
     }
     true
 }
 
-// 6, 7 and 8 pass at node i of m, an agent whose record is r and whose arguments start at `at`, and its channel is marked in its row.
-fn agent_fits(reach: &[u64], file: &[u8], at: usize, m: usize, i: usize, r: Record) -> bool
-    requires { HasRow reach.now i × (r.name < 256) × (at + 7 < length file.now) }
-    ensures { result ≡ true → (record_fits m i r ≡ true) × RestZero file.now at r.arity × (marked reach.now i r.name ≡ true) }
+// 6, 7 and 8 pass at node i of m, an agent whose record is r, and its channel is marked in its row.
+fn agent_fits(reach: &[u64], m: usize, i: usize, r: Record) -> bool
+    requires { HasRow reach.now i × (r.name < 256) }
+    ensures { result ≡ true → (record_fits m i r ≡ true) × (every 8 (rest_zero r) ≡ true) × (marked reach.now i r.name ≡ true) }
 {
-    record_fits(m, i, r) & rest_zero(file, at, r.arity) & marks::is_marked(reach, i, r.name)
+    record_fits(m, i, r) & rest_zero(r) & marks::is_marked(reach, i, r.name)
 }
 
-// The argument bytes are marked in row i.
-fn args_marked(reach: &[u64], i: usize, file: &[u8], at: usize, arity: usize) -> bool
-    requires { HasRow reach.now i × (at + arity ≤ length file.now) }
-    ensures { result ≡ every arity (λ k. marked reach.now i (arg_at file.now at k)) }
+// The arguments are marked in row i.
+fn args_marked(reach: &[u64], i: usize, args: &[u8]) -> bool
+    requires { HasRow reach.now i }
+    ensures { result ≡ all (marked reach.now i) args.now }
 {
     let mut found = true;
-    let mut k: usize = 0;
-    while k < arity {
-        found = found & marks::is_marked(reach, i, wire::byte_index(file[at + k]));
-        k += 1;
+    for arg in args {
+        found &= marks::is_marked(reach, i, usize::from(*arg));
     }
     found
 }
 
-// The argument bytes, marked.
-fn args_row(file: &[u8], at: usize, arity: usize) -> [u64; 4]
-    requires { at + arity ≤ length file.now }
-    ensures { (v : ℕ) → marked result 0 v ≡ any arity (λ k. eqb v (arg_at file.now at k)) }
+// The arguments, marked.
+fn args_row(args: &[u8]) -> [u64; 4]
+    ensures { (v : ℕ) → marked result 0 v ≡ has args.now v }
 {
     let mut row = [0u64; 4];
-    let mut k: usize = 0;
-    while k < arity {
-        marks::mark_if(&mut row, true, wire::byte_index(file[at + k]));
-        k += 1;
+    for arg in args {
+        marks::mark_if(&mut row, true, usize::from(*arg));
     }
     row
 }
@@ -84,18 +79,16 @@ fn count(table: &mut [u16], at: usize)
     requires { (at < length table.old) × (get_or table.old at 0 < 65535) }
     ensures { Grown table.old table.new (λ v. one (eqb v at)) }
 {
-    table[at] = table[at] + 1;
+    table[at] += 1;
 }
 
-// Counts the argument bytes.
-fn count_args(binders: &mut [u16], file: &[u8], at: usize, arity: usize)
-    requires { (length binders.old ≡ 256) × Below binders.old 60000 × (arity ≤ 8) × (at + arity ≤ length file.now) }
-    ensures { Grown binders.old binders.new (λ v. sum arity (λ k. one (eqb v (arg_at file.now at k)))) }
+// Counts the arguments.
+fn count_args(binders: &mut [u16], args: &[u8])
+    requires { (length binders.old ≡ 256) × Below binders.old 60000 × (length args.now ≤ 8) }
+    ensures { Grown binders.old binders.new (times args.now) }
 {
-    let mut k: usize = 0;
-    while k < arity {
-        count(binders, wire::byte_index(file[at + k]));
-        k += 1;
+    for arg in args {
+        count(binders, usize::from(*arg));
     }
 }
 
@@ -105,7 +98,7 @@ fn count_field(parents: &mut [u8], to: usize) -> bool
     ensures { result ≡ true → Grown parents.old parents.new (λ v. one (eqb v to)) }
 {
     if parents[to] < 255 {
-        parents[to] = parents[to] + 1;
+        parents[to] += 1;
         return true;
     }
     false
@@ -121,52 +114,49 @@ fn hand_down(reach: &mut [u64], parents: &mut [u8], from: usize, to: usize, boun
     count_field(parents, to)
 }
 
-// Passes node i, an agent whose record is r. False where it does not fit.
+// Passes node i of m, an agent whose record is r. False where it does not fit.
 fn pass_agent(
     reach: &mut [u64],
     parents: &mut [u8],
     binders: &mut [u16],
-    file: &[u8],
-    t: Trailer,
+    m: usize,
     i: usize,
     r: Record,
 ) -> bool
-    requires records_fit { RecordsFit file.now t × Ready t.nodes i reach.old parents.old binders.old }
-    requires r_value { (r ≡ record_of file.now t i) × (r.name < 256) × (is_agent (node_of r) ≡ true) }
-    ensures { result ≡ true → Passed t.nodes i r reach.old parents.old binders.old
+    requires ready { Ready m i reach.old parents.old binders.old }
+    requires agent { (r.name < 256) × (is_agent (node_of r) ≡ true) }
+    ensures { result ≡ true → Passed m i r reach.old parents.old binders.old
         reach.new parents.new binders.new }
 {
-    let at = t.start + 16 * i + 8;
-    if !agent_fits(reach, file, at, t.nodes, i, r) {
+    if !agent_fits(reach, m, i, r) {
         return false;
     }
+    let args = &r.args[..r.arity];
     if records::sends(r) {
-        if !args_marked(reach, i, file, at, r.arity) {
+        if !args_marked(reach, i, args) {
             return false;
         }
         return hand_down(reach, parents, i, r.left, [0; 4]);
     }
-    count_args(binders, file, at, r.arity);
-    hand_down(reach, parents, i, r.left, args_row(file, at, r.arity))
+    count_args(binders, args);
+    hand_down(reach, parents, i, r.left, args_row(args))
 }
 
-// Passes node i, a stop, new, par or choice whose record is r. False where it does not fit.
+// Passes node i of m, a stop, new, par or choice whose record is r. False where it does not fit.
 fn pass_other(
     reach: &mut [u64],
     parents: &mut [u8],
     binders: &mut [u16],
-    file: &[u8],
-    t: Trailer,
+    m: usize,
     i: usize,
     r: Record,
 ) -> bool
-    requires records_fit { RecordsFit file.now t × Ready t.nodes i reach.old parents.old binders.old }
-    requires r_value { (r ≡ record_of file.now t i) × (r.name < 256) × (is_agent (node_of r) ≡ false) }
-    ensures { result ≡ true → Passed t.nodes i r reach.old parents.old binders.old
+    requires ready { Ready m i reach.old parents.old binders.old }
+    requires no_agent { (r.name < 256) × (is_agent (node_of r) ≡ false) }
+    ensures { result ≡ true → Passed m i r reach.old parents.old binders.old
         reach.new parents.new binders.new }
 {
-    let at = t.start + 16 * i + 8;
-    if !(record_fits(t.nodes, i, r) & rest_zero(file, at, 0)) {
+    if !(record_fits(m, i, r) & rest_zero(r)) {
         return false;
     }
     if records::is_stop(r) {
@@ -182,90 +172,71 @@ fn pass_other(
     hand_down(reach, parents, i, r.right, [0; 4])
 }
 
-// Passes node i. False where it does not fit.
+// Passes node i of m, whose record is r. False where it does not fit.
 fn pass_node(
     reach: &mut [u64],
     parents: &mut [u8],
     binders: &mut [u16],
-    file: &[u8],
-    t: Trailer,
+    m: usize,
     i: usize,
+    r: Record,
 ) -> bool
-    requires { RecordsFit file.now t × Ready t.nodes i reach.old parents.old binders.old }
-    ensures { result ≡ true → Passed t.nodes i (record_of file.now t i) reach.old parents.old binders.old
+    requires { Ready m i reach.old parents.old binders.old × (r.name < 256) }
+    ensures { result ≡ true → Passed m i r reach.old parents.old binders.old
         reach.new parents.new binders.new }
 {
-    let r = records::node_at(file, t, i);
     if records::is_agent(r) {
-        return pass_agent(reach, parents, binders, file, t, i, r);
+        return pass_agent(reach, parents, binders, m, i, r);
     }
-    pass_other(reach, parents, binders, file, t, i, r)
+    pass_other(reach, parents, binders, m, i, r)
 }
 
 // Each name below n was counted once, and no other.
-fn bound_once(binders: &[u16], n: usize) -> bool
-    requires { length binders.now ≡ 256 }
+fn bound_once(binders: &[u16; 256], n: usize) -> bool
     ensures { result ≡ every 256 (count_fits binders.now n) }
 {
     let mut once = true;
-    let mut v: usize = 0;
-    while v < 256 {
-        once = once & (((n <= v) | (binders[v] == 1)) & ((v < n) | (binders[v] == 0)));
-        v += 1;
+    for (v, count) in binders.iter().enumerate() {
+        once &= ((n <= v) | (*count == 1)) & ((v < n) | (*count == 0));
     }
     once
 }
 
-// The pass, over tables without marks and counts: the names that reach each node, how many fields name each node, how often each name is bound.
-// A parent comes before its children, so that a node's row and count are final when it is passed.
-fn scan(reach: &mut [u64], parents: &mut [u8], binders: &mut [u16], file: &[u8], t: Trailer) -> bool
-    requires records_fit { RecordsFit file.now t × (t.nodes ≤ 1024) × (t.names ≤ 256) }
-    requires reach_value { (reach.old ≡ replicate (4 * length parents.old) 0) × (parents.old ≡ replicate (length parents.old) 0) }
-    requires binders_value { (binders.old ≡ replicate 256 0) × (t.nodes ≤ length parents.old) }
-    ensures { result ≡ true → Clear file.now t }
+// The pass, over tables for NODES nodes with four words for each: the names that reach each node, how many fields name each node, how often each
+// name is bound. A parent comes before its children, so that a node's row and count are final when it is passed.
+fn scan<const NODES: usize, const WORDS: usize>(array: &ArrayFile) -> bool
+    requires { (array.now.trailer.nodes ≤ NODES) × (NODES ≤ 1024) × (WORDS ≡ 4 * NODES) }
+    ensures { result ≡ true → Clear array.now.bytes.now array.now.trailer }
 {
-    let mut i: usize = 0;
-    while i < t.nodes {
+    let mut reach = [0u64; WORDS];
+    let mut parents = [0u8; NODES];
+    let mut binders = [0u16; 256];
+    let m = array.trailer.nodes;
+    for i in 0..m {
         if !((i == 0) | (parents[i] == 1)) {
             return false;
         }
-        if !pass_node(reach, parents, binders, file, t, i) {
+        if !pass_node(
+            &mut reach,
+            &mut parents,
+            &mut binders,
+            m,
+            i,
+            array.node_at(i),
+        ) {
             return false;
         }
-        i += 1;
     }
-    bound_once(binders, t.names)
+    bound_once(&binders, array.trailer.names)
 }
 
-// The pass over tables for 64 nodes, which are cleared the faster.
-fn scan_few(file: &[u8], t: Trailer) -> bool
-    requires { RecordsFit file.now t × (t.nodes ≤ 64) × (t.names ≤ 256) }
-    ensures { result ≡ true → Clear file.now t }
+// Yes only where none of the refusals 6 to 12 comes. Tables for 64 nodes are cleared the faster.
+pub fn passes(array: &ArrayFile) -> bool
+    ensures { result ≡ true → Clear array.now.bytes.now array.now.trailer }
 {
-    let mut reach = [0u64; 256];
-    let mut parents = [0u8; 64];
-    let mut binders = [0u16; 256];
-    scan(&mut reach, &mut parents, &mut binders, file, t)
-}
-
-// The pass over tables for as many nodes as there may be.
-fn scan_many(file: &[u8], t: Trailer) -> bool
-    requires { RecordsFit file.now t × (t.nodes ≤ 1024) × (t.names ≤ 256) }
-    ensures { result ≡ true → Clear file.now t }
-{
-    let mut reach = [0u64; 4096];
-    let mut parents = [0u8; 1024];
-    let mut binders = [0u16; 256];
-    scan(&mut reach, &mut parents, &mut binders, file, t)
-}
-
-// Yes only where none of the refusals 6 to 12 comes.
-pub fn passes(file: &[u8], t: Trailer) -> bool
-    requires { RecordsFit file.now t × (t.nodes ≤ 1024) × (t.names ≤ 256) }
-    ensures { result ≡ true → Clear file.now t }
-{
-    if t.nodes <= 64 {
-        return scan_few(file, t);
+    if array.trailer.nodes <= 64 {
+        scan::<64, 256>(array)
+    } else {
+        scan::<1024, 4096>(array)
     }
-    scan_many(file, t)
 }

@@ -7,22 +7,19 @@ ghost use Rattle.std.specs.Prelude.{◌≡◌, true, ◌&&◌, ◌||◌, ℕ, �
 ghost use Rattle.laws.specs.Search.{clear};
 ghost use Rattle.laws.specs.Lists.{all, has};
 ghost use Rattle.model.specs.Formed.{children, binds, uses, in_reach, refusal8, refusal9, refusal12};
-ghost use Rattle.records.specs.Record.{RecordsFit, args_of, node_of, array_of, found_of};
+ghost use Rattle.records.specs.Record.{args_of, node_of, found_of};
+ghost use Rattle.records.specs.ArrayFile.{array_in};
 ghost use Rattle.marks.specs.Marks.{HasRow, marked};
 ghost use Rattle.scopes.specs.Scope.{passed, pass_if, HandedDown};
 
-use records::{Check, Record, Refusal, Trailer};
+use records::{ArrayFile, Reason, Record, Refusal};
 
 // Marks the arguments of a record where `on` is true.
-pub fn mark_args(row: &mut [u64], on: bool, r: Record)
-    requires { length row.old ≡ 4 }
+pub fn mark_args(row: &mut [u64; 4], on: bool, r: Record)
     ensures { (v : ℕ) → v < 256 → marked row.new 0 v ≡ marked row.old 0 v || (on && has (args_of r) v) }
 {
-    let args = r.args;
-    let mut k: usize = 0;
-    while k < 8 {
-        marks::mark_if(row, on & (k < r.arity), wire::byte_index(args[k]));
-        k += 1;
+    for (k, arg) in r.args.iter().enumerate() {
+        marks::mark_if(row, on & (k < r.arity), usize::from(*arg));
     }
 }
 
@@ -42,11 +39,9 @@ pub fn pass_down(reach: &mut [u64], from: usize, to: usize, bound: [u64; 4])
     requires { (from < to) × HasRow reach.old to }
     ensures { reach.new ≡ passed reach.old from to bound 4 }
 {
-    let mut w: usize = 0;
-    while w < 4 {
+    for w in 0..4 {
         let above = marks::word_at(reach, from, w);
         marks::set_word(reach, to, w, above | bound[w]);
-        w += 1;
     }
 }
 
@@ -72,16 +67,13 @@ fn pass_children(reach: &mut [u64], j: usize, r: Record)
 }
 
 // The names that reach each node, marked in a row for each, of a list that has no marks.
-fn fill_scopes(reach: &mut [u64], file: &[u8], t: Trailer)
-    requires records_fit { RecordsFit file.now t × (t.nodes ≤ 1024) × (reach.old ≡ replicate 4096 0) }
-    requires t_value { (refusal8 (array_of file.now t) ≡ clear) × (refusal9 (array_of file.now t) ≡ clear) }
-    ensures { (i v : ℕ) → i < t.nodes → v < 256 → marked reach.new i v ≡ in_reach (array_of file.now t) v i }
+fn fill_scopes(reach: &mut [u64], array: &ArrayFile)
+    requires no_marks { reach.old ≡ replicate 4096 0 }
+    requires is_tree { (refusal8 (array_in array.now) ≡ clear) × (refusal9 (array_in array.now) ≡ clear) }
+    ensures { (i v : ℕ) → i < array.now.trailer.nodes → v < 256 → marked reach.new i v ≡ in_reach (array_in array.now) v i }
 {
-    let mut j: usize = 0;
-    while j < t.nodes {
-        let r = records::node_at(file, t, j);
-        pass_children(reach, j, r);
-        j += 1;
+    for j in 0..array.trailer.nodes {
+        pass_children(reach, j, array.node_at(j));
     }
 }
 
@@ -90,13 +82,10 @@ fn args_marked(reach: &[u64], i: usize, r: Record) -> bool
     requires { HasRow reach.now i }
     ensures { result ≡ all (marked reach.now i) (args_of r) }
 {
-    let args = r.args;
     let mut found = true;
-    let mut k: usize = 0;
-    while k < 8 {
-        let here = marks::is_marked(reach, i, wire::byte_index(args[k]));
-        found = found & ((r.arity <= k) | here);
-        k += 1;
+    for (k, arg) in r.args.iter().enumerate() {
+        let here = marks::is_marked(reach, i, usize::from(*arg));
+        found &= (r.arity <= k) | here;
     }
     found
 }
@@ -117,23 +106,15 @@ fn uses_marked(reach: &[u64], i: usize, r: Record) -> bool
 }
 
 // Refusal 12.
-pub fn bad_reach(file: &[u8], t: Trailer) -> Check
-    requires records_fit { RecordsFit file.now t × (t.nodes ≤ 1024) }
-    requires t_value { (refusal8 (array_of file.now t) ≡ clear) × (refusal9 (array_of file.now t) ≡ clear) }
-    ensures { found_of result ≡ refusal12 (array_of file.now t) }
+pub fn bad_reach(array: &ArrayFile) -> Result<(), Refusal>
+    requires { (refusal8 (array_in array.now) ≡ clear) × (refusal9 (array_in array.now) ≡ clear) }
+    ensures { found_of result ≡ refusal12 (array_in array.now) }
 {
     let mut reach = [0u64; 4096];
-    fill_scopes(&mut reach, file, t);
-    let mut i: usize = 0;
-    while i < t.nodes {
-        let r = records::node_at(file, t, i);
-        if !uses_marked(&reach, i, r) {
-            return Check::Refused(Refusal {
-                number: 12,
-                place: i,
-            });
-        }
-        i += 1;
-    }
-    Check::Passed
+    fill_scopes(&mut reach, array);
+    records::first_failing(
+        array.trailer.nodes,
+        Reason::Reach,
+        |i| uses_marked(&reach, i, array.node_at(i)),
+    )
 }

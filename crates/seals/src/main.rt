@@ -33,12 +33,10 @@ fn write_table(table: &mut [u8], sum: u32)
 }
 
 fn print_bytes(rt: &impl Print, bytes: &[u8]) {
-    let mut i: usize = 0;
-    while i < bytes.len() {
-        lines::print_figure(rt, wire::byte_index(bytes[i]));
-        i += 1;
+    for byte in bytes {
+        let _ = print!(rt; " {byte}");
     }
-    lines::print_text(rt, b"\n");
+    let _ = println!(rt);
 }
 
 fn main(rt: HostRuntime) {
@@ -49,5 +47,5 @@ fn main(rt: HostRuntime) {
     print_bytes(&rt, handover::remark(&file));
     print_bytes(&rt, &file[24..]);
     print_bytes(&rt, &table);
-    lines::print_verdict(&rt, handover::check(&file, &table));
+    lines::print_answer(&rt, handover::check(&file, &table));
 }

@@ -4,14 +4,15 @@ use native.Mathlib.Nat.{le_refl, le_trans}
 use native.Mathlib.Omega.{arith}
 use mathlib.Core.Path.{◌≡◌, refl, sym, ap, ◌∙◌, subst}
 use mathlib.Core.Logic.{inl, inr}
-use mathlib.Core.Bool.{true, cond}
+use mathlib.Core.Bool.{Bool, true, cond, true≢false}
 use mathlib.Core.List.{List}
 use lib.Dec.{eqb, ltb}
-use lib.ListN.{length, set, length-set}
+use lib.ListN.{length, set, length-set, length-replicate}
 use borrow.Author.Tests.{eqb-true, eq-eqb, ltb-true, ltb-false}
-use Rattle.laws.specs.Search.{every}
-use Rattle.laws.proofs.Search.{decided, and-join, or_left, or_right, every_true}
-use Rattle.laws.proofs.Lists.{get_d_set}
+use Rattle.std.proofs.Common.{IsTrue, ◌↔◌}
+use Rattle.laws.specs.Search.{every, any}
+use Rattle.laws.proofs.Search.{decided, and-join, or_left, or_right, every_true, any-true, true-any}
+use Rattle.laws.proofs.Lists.{get_d_set, slice_index-zeros}
 use Rattle.marks.specs.Marks.{marked, mark_if, inside, Joined}
 use Rattle.marks.proofs.Laws.{marked-inside, inside-trans, join-keeps, marked-set}
 use Rattle.model.specs.Memory.{is_out}
@@ -24,7 +25,17 @@ use Rattle.pairs.specs.declared.Side.{Side}
 use Rattle.pairs.specs.Pairs.{Setting, Given, Held}
 use Rattle.pairs.proofs.Laws.{name-row, arg-row}
 use Rattle.pairs.proofs.ByDifference.{need-there}
-use Rattle.senders.specs.Sets.{every_name, sends_by, Family, Room, Covers, Collected, NeedsGrow, RowsGrow, Grown, Askable}
+use Rattle.senders.specs.declared.TheConstants.{NO_SENDERS}
+use Rattle.senders.specs.Sets.{every_name, sends_by, Family, Room, Vacant, Covers, Collected, NeedsGrow, RowsGrow, Grown, Askable}
+
+-- ---- a test of some number below n
+
+pub any-told : {b : Bool} (n : ℕ) (f : ℕ → Bool) → (IsTrue b ↔ ((j : ℕ) × (j < n) × (f j ≡ true))) → b ≡ any n f
+any-told {b} n f h =
+    elim (decided b) [
+      | inl e ↦ let x = h.0 e in e ∙ sym (true-any n f x.0 x.1 x.2)
+      | inr e ↦ elim (decided (any n f)) [ inl k ↦ absurd (true≢false (sym (h.1 (any-true n f k)) ∙ e)) | inr k ↦ e ∙ sym k ]
+    ]
 
 -- ---- needs
 
@@ -90,6 +101,17 @@ module _ (row : List ℕ) (v : ℕ) (fits : v / 64 < length row) where
   mark-adds = marked-set row v v fits ∙ or_right (marked row 0 v) _ (eq-eqb v v refl)
 
 -- ---- a family
+
+pub none-vacant : Vacant NO_SENDERS
+none-vacant = record {
+  room = record {
+    needs = length-replicate {A = ℕ} 288 0;
+    unions = length-replicate {A = ℕ} 432 0;
+    arities = length-replicate {A = ℕ} 4 0;
+    half = λ g k. rw (slice_index-zeros 288 (entry_index g k)) (omega arith);
+  };
+  links = refl;
+}
 
 pub grown-same : (F : Family) → Grown F F
 grown-same F = record { needs = needs-same F.needs; unions = rows_same F.unions; size = refl; arities = λ o e. e }

@@ -14,7 +14,7 @@ use Rattle.laws.proofs.Search.{decided}
 use Rattle.laws.proofs.Lists.{slice_index-zeros}
 use Rattle.records.specs.declared.Trailer.{Trailer}
 use Rattle.records.specs.Record.{record_of}
-use Rattle.senders.specs.Sets.{sends_by, Member, link_if, Linked}
+use Rattle.senders.specs.Sets.{sends_by, Member, link, Linked}
 
 module _ (f : List ℕ) (t : Trailer) (names : List ℕ) (sets : ℕ → ℕ) where
   abbrev Of : ℕ → ℕ → Type 0
@@ -58,7 +58,7 @@ module _ (f : List ℕ) (t : Trailer) (names : List ℕ) (sets : ℕ → ℕ) wh
     split x b = let e : x ≤ q = omega arith in eq-or-lt_of_le e
 
     -- a node that is not gathered is of no set
-    linked-skip : sends ≡ false → LinkedTo links (q + 1)
+    pub linked-skip : sends ≡ false → LinkedTo links (q + 1)
     linked-skip off = record {
       size = l.size;
       last = λ g x h b. l.last g x h (less g x h b);
@@ -140,17 +140,14 @@ module _ (f : List ℕ) (t : Trailer) (names : List ℕ) (sets : ℕ → ℕ) wh
             (subst (λ (n : ℕ). Of n p) (sym (of-own g x h s)) a.0, omega (arith, a.1))
       ]
 
-      linked-put : LinkedTo more (q + 1)
-      linked-put = record {
+      pub linked-more : LinkedTo (link links own q) (q + 1)
+      linked-more = record {
         size = length-set half (1024 + own) (q + 1) ∙ room-is;
         last = linked-last;
         last_of = linked-last_of;
         before = linked-before;
         before_of = linked-before_of;
       }
-
-    pub linked-more : own < 12 → LinkedTo (link_if links sends own q) (q + 1)
-    linked-more few = elim (decided sends) [ inl e ↦ rw e (linked-put e few) | inr e ↦ rw e (linked-skip e) ]
 
 -- the sets of the nodes below are what counts
 pub linked-same : (f : List ℕ) (t : Trailer) (names : List ℕ) (sets more : ℕ → ℕ) (links : List ℕ) (n : ℕ) → ((x : ℕ) → x < n → more x ≡ sets x)

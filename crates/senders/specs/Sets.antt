@@ -1,5 +1,5 @@
 -- Sets of senders: what a set keeps of all its senders together, and how they are linked.
-use Rattle.std.specs.Prelude.{ℕ, ◌+◌, ◌*◌, ◌≤◌, ◌<◌, ◌≡◌, Bool, true, false, cond, ◌&&◌, ◌||◌, List, eqb, length, get_or, set, replicate}
+use Rattle.std.specs.Prelude.{ℕ, ◌+◌, ◌*◌, ◌≤◌, ◌<◌, ◌≡◌, Bool, true, false, ◌&&◌, ◌||◌, List, eqb, length, get_or, set, replicate}
 use Rattle.laws.specs.Search.{any}
 use Rattle.marks.specs.Marks.{HasRow, marked, inside}
 use Rattle.model.specs.Memory.{is_out}
@@ -8,7 +8,8 @@ use Rattle.records.specs.declared.Trailer.{Trailer}
 use Rattle.records.specs.Record.{node_of, record_of}
 use Rattle.loads.specs.Loads.{load_in}
 use Rattle.pairs.specs.declared.Side.{Side}
-use Rattle.pairs.specs.Pairs.{Setting, setting, Held, need_of, NeedThere}
+use Rattle.pairs.specs.Pairs.{Setting, Held, need_of, NeedThere}
+use Rattle.senders.specs.declared.Sets.{Sets}
 
 -- ---- which senders are gathered
 
@@ -40,8 +41,8 @@ pub record Family : Type 0 where
   pub unions : List ℕ
   pub arities : List ℕ
 
-abbrev pub family : List ℕ → List ℕ → List ℕ → Family
-family needs unions arities = record { needs = needs; unions = unions; arities = arities }
+abbrev pub family : Sets → Family
+family s = record { needs = s.needs; unions = s.unions; arities = s.arities }
 
 -- the sum of an entry and a load may be compared
 abbrev pub HalfNeeds : List ℕ → Type 0
@@ -52,6 +53,11 @@ pub record Room (F : Family) : Type 0 where
   pub unions : length F.unions ≡ 432
   pub arities : length F.arities ≡ 4
   pub half : HalfNeeds F.needs
+
+-- no sender is there
+pub record Vacant (s : Sets) : Type 0 where
+  pub room : Room (family s)
+  pub links : s.links ≡ replicate 1036 0
 
 -- set g keeps what a record sends, and what sender q needs in n balances
 abbrev pub SentKept : List ℕ → List ℕ → ℕ → Record → Type 0
@@ -91,10 +97,6 @@ pub record Grown (F G : Family) : Type 0 where
   pub size : length G.arities ≡ length F.arities
   pub arities : (o : ℕ) → marked F.arities 0 o ≡ true → marked G.arities 0 o ≡ true
 
--- whatever the file and the bounds are
-abbrev pub KeptBy : ℕ → ℕ → List ℕ → List ℕ → Family → ℕ → Side → Type 0
-KeptBy rule n rows loads F g q = (f : List ℕ) (t : Trailer) (bounds : List ℕ) → Covers rule (setting f t n rows loads bounds) F g q
-
 -- the rows of what a record sends are there
 pub record SentRows (rows : List ℕ) (r : Record) : Type 0 where
   pub few : r.arity ≤ 8
@@ -117,9 +119,9 @@ pub record Askable (n : ℕ) (rows loads : List ℕ) (q : Side) : Type 0 where
 abbrev pub Member : List ℕ → Trailer → List ℕ → (ℕ → ℕ) → ℕ → ℕ → Type 0
 Member f t names sets g q = (q < t.nodes) × (sends_by names (record_of f t q) ≡ true) × (sets q ≡ g)
 
--- node q before the last sender of set g, where the test is true
-abbrev pub link_if : List ℕ → Bool → ℕ → ℕ → List ℕ
-link_if links on g q = cond on (set (set links q (get_or links (1024 + g) 0)) (1024 + g) (q + 1)) links
+-- node q before the last sender of set g
+abbrev pub link : List ℕ → ℕ → ℕ → List ℕ
+link links g q = set (set links q (get_or links (1024 + g) 0)) (1024 + g) (q + 1)
 
 -- entry 1,024 + g is 1 + the last sender of set g, and entry q 1 + the sender of its set before q; 0 is none
 pub record Linked (f : List ℕ) (t : Trailer) (names : List ℕ) (sets : ℕ → ℕ) (links : List ℕ) : Type 0 where

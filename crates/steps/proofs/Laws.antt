@@ -1,5 +1,5 @@
 -- A meeting: what stays, its marker, its threads counted and written, and its step as a result on the lists.
-use Prim.Native.Nat.{ℕ, suc, ◌+◌, ◌*◌, ◌-◌, ◌≤◌, ◌<◌, min, max}
+use Prim.Native.Nat.{ℕ, suc, ◌+◌, ◌*◌, ◌-◌, ◌≤◌, ◌<◌, min}
 use native.Mathlib.Nat.{zero-mul, zero-add, mul-le-mul}
 use native.Mathlib.Numerals.{add-one}
 use native.Mathlib.Omega.{arith}
@@ -11,7 +11,10 @@ use mathlib.Core.Option.{none, some}
 use lib.Dec.{eqb, ltb, leb}
 use lib.ListN.{length, get_or, drop, length-append, length-drop}
 use lib.Seq.{length-take-le}
-use borrow.Author.Tests.{eq-eqb, ne_eqb, leb-true, lt-ltb, le-ltb, ltb-true, ltb-false}
+use borrow.Author.Tests.{eq-eqb, ne_eqb, leb-true, lt-ltb, le-ltb}
+use mir.Val.{bool_byte}
+use Rattle.std.specs.Prelude.{Option, Some, None, Result, Ok, Err}
+use Rattle.std.specs.Option.{is_some}
 use Rattle.laws.specs.Lists.{put}
 use Rattle.laws.proofs.Search.{decided, and_split}
 use Rattle.laws.proofs.Lists.{All-slice_index}
@@ -29,6 +32,7 @@ use Rattle.model.proofs.Markers.{position-le}
 use Rattle.model.proofs.Memory.{slot, length-threads, length-entries, threads-wide, thread-room, marker-room, thread-at, numbers-append, numbers-entries}
 use Rattle.model.proofs.Tree.{agent-inside}
 use Rattle.model.proofs.Lent.{Sound, formed-sound}
+use Rattle.records.specs.declared.Reason.{Reason}
 use Rattle.records.specs.declared.Record.{Record}
 use Rattle.records.specs.declared.Trailer.{Trailer}
 use Rattle.records.specs.Record.{record_of, args_of, sort_of, node_of, array_of}
@@ -37,6 +41,7 @@ use Rattle.records.proofs.KindLaws as K
 use Rattle.arrays.specs.File.{IsRead}
 use Rattle.arrays.specs.Agents.{agent_in, Reads}
 use Rattle.arrays.proofs.Agents.{node-is, agent-is, arity-is, small-arity, args-below}
+use Rattle.markers.specs.declared.Entry as E
 use Rattle.markers.specs.Markers.{entry_of}
 use Rattle.unfolds.specs.Unfold.{unfolded, Written}
 use Rattle.unfolds.proofs.Laws.{wide-unfolded, written_same, written_both}
@@ -48,8 +53,7 @@ use Rattle.lent.specs.Lent.{lent_of}
 use Rattle.steps.specs.declared.Meeting.{Meeting}
 use Rattle.steps.specs.declared.NextMarker.{NextMarker}
 use Rattle.steps.specs.declared.Fired.{Fired}
-use Rattle.steps.specs.declared.Fired.TheVariants.{Stopped, Made}
-use Rattle.steps.specs.Steps.{Makes, Fires, thread_at, Lies, Met, Meets, Binds, meeting_at, entry_at, marker_for, entries_for, MarkerTold, Bound, advanced}
+use Rattle.steps.specs.Steps.{Makes, Fires, thread_at, Lies, Met, Meets, Binds, meeting_at, entry_at, marker_for, entries_for, with_added, MarkerTold, Bound, advanced}
 
 some_inj : {g h : Agent} → some g ≡ some h → g ≡ h
 some_inj e = cc
@@ -109,41 +113,50 @@ module _ {t : Trailer} {l : List ℕ} {n : Counts} {m : Meeting} (x : Met t l n 
   w = 2 + t.names
 
   -- an in keeps its own
-  pub in-marker : is_resource (node_of m.p) ≡ false → (y : NextMarker) → y.number ≡ get_or l (m.receiver * w + 1) 0 → y.markers ≡ n.markers
+  pub in-marker : is_resource (node_of m.p) ≡ false → (y : NextMarker) → y.number ≡ get_or l (m.receiver * w + 1) 0 → y.added ≡ None
       → MarkerTold t l es m y
   unfolding marker_of list_after
-  in-marker e y number markers =
-      let k = length-entries n.markers ml in
+  in-marker e y number added =
       let is-in = K.in_is m.p x.receives e in record {
         number = rw is-in number;
         small = let a = x.marker in let b = x.listed in omega (arith, number);
-        markers = rw is-in (markers ∙ sym k);
-        same = λ h. rw is-in;
-        added = λ h. absurd (omega arith);
+        entries = rw (is-in, added);
       }
 
-  -- a resource has one of its own
-  pub own-marker : is_resource (node_of m.p) ≡ true → (y : NextMarker) → entry_of y.entry ≡ entry_at l (m.receiver * w) (m.sender * w)
-      → y.number ≡ position (entry_of y.entry) es + 1 → y.markers ≡ max (position (entry_of y.entry) es + 1) n.markers → MarkerTold t l es m y
-  unfolding marker_of list_after extend words
-  own-marker e y entry number markers =
-      let k = length-entries n.markers ml in
-      let own = K.resource-is m.p e in
-      let at = entry_of y.entry in
-      let most = position-le at es in
-      let past : n.markers < y.markers → ltb (position at es) (length es) ≡ false = λ h. le-ltb (position at es) (length es) (omega arith) in
-      let found : y.markers ≤ n.markers → ltb (position at es) (length es) ≡ true = λ h. lt-ltb (position at es) (length es) (omega arith) in
-      let here : extend es at ≡ entries_for t l es m = rw (own, entry) in record {
-        number = rw (own, ← entry) (number ∙ add-one (position at es));
-        small = let b = x.listed in omega arith;
-        markers = ⊎_elim
-            (λ (b : ltb n.markers y.markers ≡ true).
-            let h = ltb-true n.markers y.markers b in rw (← here, past h, length-append) (omega arith))
-            (λ (b : ltb n.markers y.markers ≡ false).
-            let h = ltb-false n.markers y.markers b in rw (← here, found h) (omega arith)) (decided (ltb n.markers y.markers));
-        same = λ h. sym here ∙ rw (found (omega arith));
-        added = λ h. sym here ∙ rw (past (omega arith));
-      }
+  -- a resource has one of its own, listed or new
+  module _ (own : is_resource (node_of m.p) ≡ true) (e : E.Entry) (here : entry_of e ≡ entry_at l (m.receiver * w) (m.sender * w)) (y : NextMarker) where
+    abbrev at : Entry
+    at = entry_of e
+
+    own-is : extend es at ≡ entries_for t l es m
+    unfolding list_after
+    own-is = rw (K.resource-is m.p own, here)
+
+    own-number : position at es + 1 ≡ marker_for t l es m
+    unfolding marker_of words
+    own-number = rw (K.resource-is m.p own, ← here) (add-one (position at es))
+
+    pub listed-marker : position at es < n.markers → y.number ≡ position at es + 1 → y.added ≡ None → MarkerTold t l es m y
+    unfolding extend
+    listed-marker below number added =
+        let k = length-entries n.markers ml in
+        let found : ltb (position at es) (length es) ≡ true = lt-ltb (position at es) (length es) (omega arith) in record {
+          number = number ∙ own-number;
+          small = let b = x.listed in omega arith;
+          entries = sym own-is ∙ rw (found, added);
+        }
+
+    pub new-marker : n.markers ≤ position at es → y.number ≡ n.markers + 1 → y.added ≡ Some e → MarkerTold t l es m y
+    unfolding extend
+    new-marker past number added =
+        let k = length-entries n.markers ml in
+        let most = position-le at es in
+        let none : ltb (position at es) (length es) ≡ false = le-ltb (position at es) (length es) (omega arith) in
+        let same : n.markers ≡ position at es = omega arith in record {
+          number = number ∙ ap (λ (i : ℕ). i + 1) same ∙ own-number;
+          small = let b = x.listed in omega arith;
+          entries = sym own-is ∙ rw (none, added);
+        }
 
 -- ---- its threads
 
@@ -361,9 +374,9 @@ module _ {f : List ℕ} {t : Trailer} (l ml : List ℕ) (n : Counts) (read : IsR
           ap₂ (λ (x : List Entry) (y : Answer ℕ ℕ). on_answer A M x y) after_is
           (made.1 ∙ ap next (meet.1 ∙ ap₂ (stepped (words ES) (config_of A M) u) is-p is-q ∙ stepped-is))
 
-      pub fires : (e : Fired) (l' ml' : List ℕ) → Makes f t choices l ml n m e l' ml' → Fires f t choices l ml n r s e l' ml'
-      fires (Stopped k) l' ml' h = ((step_is ∙ h.0.0, h.0.1, h.0.2), tt)
-      fires (Made k x) l' ml' h = (step_is ∙ h.0, h.1 ∙ sym marker-is)
+      pub fires : (e : Result Fired Reason) (l' ml' : List ℕ) → Makes f t choices l ml n m e l' ml' → Fires f t choices l ml n r s e l' ml'
+      fires (Err k) l' ml' h = ((step_is ∙ h.0.0, h.0.1, h.0.2), tt)
+      fires (Ok x) l' ml' h = (step_is ∙ h.0, h.1 ∙ sym marker-is)
 
 -- ---- what becomes of it
 
@@ -389,19 +402,26 @@ module _ {t : Trailer} {l : List ℕ} (ml : List ℕ) (n : Counts) {m : Meeting}
   abbrev old : List Entry
   old = entries_in n.markers ml
 
-  pub numbers-are : x.markers ≤ marker_room ml
-      → cond (ltb n.markers x.markers) (put (4 * n.markers) (entry_numbers (entry_of x.entry)) ml) ml ≡ put 0 (numbers_of (entries_for t l old m)) ml
-  unfolding numbers_of
-  numbers-are most =
-      let k = length-entries n.markers ml in
+  -- how many there are
+  pub entries-count : length (entries_for t l old m) ≡ n.markers + bool_byte (is_some x.added)
+  entries-count = ap length y.entries ∙ go x.added
+    where
+      k : length old ≡ n.markers
+      k = length-entries n.markers ml
+
+      go : (o : Option E.Entry) → length (with_added old o) ≡ n.markers + bool_byte (is_some o)
+      go None = let h = k in omega arith
+      go (Some e) = let h = k in let a = length-append old (entry_of e ∷ []) in omega arith
+
+  pub numbers-kept : x.added ≡ None → ml ≡ put 0 (numbers_of (entries_for t l old m)) ml
+  numbers-kept e =
       let b = (marker-room n.markers ml fits).1 in
-      let here = numbers-entries n.markers ml b in
-      ⊎_elim
-      (λ (e : ltb n.markers x.markers ≡ true).
-      let h = ltb-true n.markers x.markers e in
-      let z = (marker-room x.markers ml most).1 in
-      rw (e, y.added (omega arith), numbers-append, here) (put-from (4 * n.markers) (entry_numbers (entry_of x.entry)) ml (omega arith)))
-      (λ (e : ltb n.markers x.markers ≡ false).
-      let h = ltb-false n.markers x.markers e in
-      rw (e, y.same (omega arith), here) (sym (put_same 0 (4 * n.markers) ml (omega arith))))
-      (decided (ltb n.markers x.markers))
+      rw (y.entries, e, numbers-entries n.markers ml b) (sym (put_same 0 (4 * n.markers) ml (omega arith)))
+
+  pub numbers-added : (e : E.Entry) → x.added ≡ Some e → n.markers + 1 ≤ marker_room ml
+      → put (4 * n.markers) (entry_numbers (entry_of e)) ml ≡ put 0 (numbers_of (entries_for t l old m)) ml
+  unfolding numbers_of
+  numbers-added d e most =
+      let b = (marker-room n.markers ml fits).1 in
+      let z = (marker-room (n.markers + 1) ml most).1 in
+      rw (y.entries, e, numbers-append, numbers-entries n.markers ml b) (put-from (4 * n.markers) (entry_numbers (entry_of d)) ml (omega arith))

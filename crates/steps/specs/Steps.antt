@@ -1,13 +1,17 @@
 -- The step of a ready pair on lent lists: its two threads, the marker, what it leaves, and what a call answers and leaves.
 use Rattle.std.specs.Prelude.{ℕ, ◌+◌, ◌*◌, ◌≤◌, ◌<◌, ◌≡◌, true, List, [], ◌∷◌, ◌++◌, map, length, get_or, take, drop}
+use Rattle.std.specs.Prelude as P
+use Rattle.std.specs.Prelude.{Some, None, Ok, Err}
 use Rattle.laws.specs.Lists.{All}
 use Rattle.model.specs.Calculus.{Thread, Config, bind, keep, choices_of, marker_of}
 use Rattle.model.specs.Numbers.{Entry, list_after}
 use Rattle.model.specs.Memory.{Memory, Result, stops, leaves, words, threads_in, entries_in, is_out, is_resource, fitted, step_in, try, marker_made}
 use Rattle.records.specs.declared.Trailer.{Trailer}
-use Rattle.records.specs.Record.{record_of, args_of, sort_of, node_of, array_of}
+use Rattle.records.specs.declared.Reason.{Reason}
+use Rattle.records.specs.Record.{number_of, record_of, args_of, sort_of, node_of, array_of}
 use Rattle.records.specs.Kinds.{is_receiver}
 use Rattle.arrays.specs.Agents.{Reads}
+use Rattle.markers.specs.declared.Entry as E
 use Rattle.markers.specs.Markers.{entry_of}
 use Rattle.unfolds.specs.Unfold.{unfolded}
 use Rattle.threads.specs.Threads.{remains}
@@ -16,7 +20,6 @@ use Rattle.lent.specs.Lent.{lent_of}
 use Rattle.steps.specs.declared.Meeting.{Meeting}
 use Rattle.steps.specs.declared.NextMarker.{NextMarker}
 use Rattle.steps.specs.declared.Fired.{Fired}
-use Rattle.steps.specs.declared.Fired.TheVariants.{Stopped, Made}
 
 -- ---- a meeting
 
@@ -81,13 +84,16 @@ marker_for t l es m = marker_of (words es) (sort_of m.p) (thread_at t l m.receiv
 abbrev pub entries_for : Trailer → List ℕ → List Entry → Meeting → List Entry
 entries_for t l es m = list_after es (sort_of m.p) (thread_at t l m.receiver) (thread_at t l m.sender)
 
+-- the entries, and one more where there is one to be added
+abbrev pub with_added : List Entry → P.Option E.Entry → List Entry
+with_added es None = es
+with_added es (Some e) = es ++ (entry_of e ∷ [])
+
 -- a marker tells both
 pub record MarkerTold (t : Trailer) (l : List ℕ) (es : List Entry) (m : Meeting) (x : NextMarker) : Type 0 where
   pub number : x.number ≡ marker_for t l es m
   pub small : x.number < 65536
-  pub markers : x.markers ≡ length (entries_for t l es m)
-  pub same : x.markers ≤ length es → entries_for t l es m ≡ es
-  pub added : length es < x.markers → entries_for t l es m ≡ es ++ (entry_of x.entry ∷ [])
+  pub entries : entries_for t l es m ≡ with_added es x.added
 
 -- ---- its threads
 
@@ -111,17 +117,17 @@ advanced f t choices l k m x =
 
 -- a step's answer and both lists at exit are those of a result: the counts and the lists that it leaves, or its refusal and the lists
 -- as they were
-abbrev pub FiredAs : Memory → Result → Fired → List ℕ → List ℕ → Type 0
-FiredAs m r (Stopped n) l ml = (r ≡ stops n) × (l ≡ m.threads) × (ml ≡ m.markers)
-FiredAs m r (Made n x) l ml = r ≡ leaves (lent_of l ml n)
+abbrev pub FiredAs : Memory → Result → P.Result Fired Reason → List ℕ → List ℕ → Type 0
+FiredAs m r (Err e) l ml = (r ≡ stops (number_of e)) × (l ≡ m.threads) × (ml ≡ m.markers)
+FiredAs m r (Ok x) l ml = r ≡ leaves (lent_of l ml x.counts)
 
 -- and a step that is made tells the marker number
-abbrev pub UnderMarker : ℕ → Fired → Type 0
-UnderMarker x (Stopped n) = Unit {0}
-UnderMarker x (Made n y) = y ≡ x
+abbrev pub UnderMarker : ℕ → P.Result Fired Reason → Type 0
+UnderMarker x (Err e) = Unit {0}
+UnderMarker x (Ok y) = y.marker ≡ x
 
 -- the step of a meeting
-abbrev pub Makes : List ℕ → Trailer → List ℕ → List ℕ → List ℕ → Counts → Meeting → Fired → List ℕ → List ℕ → Type 0
+abbrev pub Makes : List ℕ → Trailer → List ℕ → List ℕ → List ℕ → Counts → Meeting → P.Result Fired Reason → List ℕ → List ℕ → Type 0
 Makes f t choices l ml n m e l' ml' =
     let es = entries_in n.markers ml in
     let x = marker_for t l es m in
@@ -129,7 +135,7 @@ Makes f t choices l ml n m e l' ml' =
     FiredAs lent (fitted (array_of f t) lent (advanced f t choices l n.threads m x) (entries_for t l es m)) e l' ml' × UnderMarker x e
 
 -- the step of threads r and s
-abbrev pub Fires : List ℕ → Trailer → List ℕ → List ℕ → List ℕ → Counts → ℕ → ℕ → Fired → List ℕ → List ℕ → Type 0
+abbrev pub Fires : List ℕ → Trailer → List ℕ → List ℕ → List ℕ → Counts → ℕ → ℕ → P.Result Fired Reason → List ℕ → List ℕ → Type 0
 Fires f t choices l ml n r s e l' ml' =
     let a = array_of f t in
     let m = lent_of l ml n in

@@ -3,27 +3,27 @@
 // Promises the model's step of the lists. Depends on lent, unfolds, threads, ready, markers, frees, arrays, records, wire, model and laws.
 #![tactic(auto)]
 
-ghost use Rattle.std.specs.Prelude.{◌≡◌, true, cond, ◌+◌, ◌*◌, ◌-◌, ◌<◌, ◌≤◌, min, max, length, get_or};
+ghost use Rattle.std.specs.Prelude.{◌≡◌, true, cond, ◌+◌, ◌*◌, ◌-◌, ◌<◌, ◌≤◌, min, length, get_or};
 ghost use Rattle.laws.specs.Lists.{put};
 ghost use Rattle.model.specs.Numbers.{nobody};
 ghost use Rattle.model.specs.Memory.{threads_in, entries_in, words_of, thread_room, marker_room, formed};
-ghost use Rattle.records.specs.Record.{RecordsFit, array_of};
+ghost use Rattle.records.specs.ArrayFile.{array_in};
 ghost use Rattle.markers.specs.Markers.{entry_of};
-ghost use Rattle.unfolds.specs.Unfold.{Prepared};
 ghost use Rattle.ready.specs.Ready.{meeting};
 ghost use Rattle.lent.specs.Lent.{lent_of};
 ghost use Rattle.steps.specs.Steps.{Lies, Met, Meets, Binds, Bound, MarkerTold, entry_at, meeting_at, advanced, Makes, Fires};
 
 use lent::Counts;
 use markers::Entry;
-use records::{Record, Trailer};
+use ready::Pair;
+use records::{ArrayFile, Reason, Record, Trailer};
+use unfolds::Ground;
 
-// What becomes of a start or a step: refused, by its number, or the counts after it and the marker number of the receiver's continuation, 0 after
-// a start. A ready pair is refused by 28 or 29 alone.
+// What a start or a step leaves: the counts after it, and the marker number of the receiver's continuation, 0 after a start.
 #[derive(Clone, Copy)]
-pub enum Fired {
-    Stopped(u8),
-    Made(Counts, u32),
+pub struct Fired {
+    pub counts: Counts,
+    pub marker: u32,
 }
 
 // A receiver and a sender: their positions, and the records of their agents.
@@ -35,25 +35,14 @@ struct Meeting {
     q: Record,
 }
 
-// The marker of the receiver's continuation: its number, how many markers are listed with it, and its entry, if it is to be added.
+// The marker of the receiver's continuation: its number, and its entry where it is a new one.
 #[derive(Clone, Copy)]
 struct NextMarker {
     number: u32,
-    markers: usize,
-    entry: Entry,
+    added: Option<Entry>,
 }
 
 // ---- what the step goes by
-
-// The greater of two numbers.
-fn at_least(j: usize, k: usize) -> usize
-    ensures { result ≡ max j k }
-{
-    if j < k {
-        return k;
-    }
-    j
-}
 
 // The entry of a resource's new marker, from the words of the two threads at `at` and `from`.
 fn entry_of(threads: &[u32], at: usize, from: usize) -> Entry
@@ -83,24 +72,28 @@ fn marker_for(
 {
     let width = 2 + t.names;
     let at = m.receiver * width;
-    let listed = counts.markers;
-    let entry = entry_of(threads, at, m.sender * width);
     if !records::is_resource(m.p) {
         return NextMarker {
             number: threads[at + 1],
-            markers: listed,
-            entry,
+            added: None,
         };
     }
-    let k = markers::find_entry(markers, listed, entry);
-    NextMarker {
-        number: (k + 1) as u32,
-        markers: at_least(k + 1, listed),
-        entry,
+    let listed = counts.markers;
+    let entry = entry_of(threads, at, m.sender * width);
+    match markers::find_entry(markers, listed, entry) {
+        Some(k) => NextMarker {
+            number: (k + 1) as u32,
+            added: None,
+        },
+        None => NextMarker {
+            number: (listed + 1) as u32,
+            added: Some(entry),
+        },
     }
 }
 
 // The environments of the two continuations: the sender's as its thread has it, the receiver's with the parameters bound.
+// Two parameters here and below: with a struct of both, each function would promise besides that it keeps the same two borrows.
 fn bind_both(t: Trailer, threads: &[u32], m: Meeting, near: &mut [u32], far: &mut [u32])
     requires binds { Binds t threads.now m }
     requires near_len { (length near.old ≡ t.names) × (length far.old ≡ t.names) }
@@ -117,20 +110,14 @@ fn kept_count(count: usize, resource: bool) -> usize
     requires { 2 ≤ count }
     ensures { result ≡ count - cond resource 1 2 }
 {
-    if resource {
-        return count - 1;
-    }
-    count - 2
+    if resource { count - 1 } else { count - 2 }
 }
 
 // ---- the step: counted, and written
 
 // How many threads there are after the step; 257 stands for more than 256.
 fn count_after(
-    file: &[u8],
-    t: Trailer,
-    frees: &[u64],
-    choices: &[u8],
+    ground: &Ground,
     threads: &[u32],
     counts: Counts,
     m: Meeting,
@@ -138,23 +125,20 @@ fn count_after(
     near: &mut [u32],
     far: &mut [u32],
 ) -> usize
-    requires prepared { Prepared file.now t frees.now choices.now × Meets file.now t threads.now counts m × (marker < 65536) }
-    requires bound { Bound t threads.now m near.old far.old }
-    ensures { (near.new ≡ near.old) × (far.new ≡ far.old)
-        × (result ≡ min 257 (length (advanced file.now t choices.now threads.now counts.threads m marker))) }
+    requires meets { Meets ground.now.array.bytes.now ground.now.array.trailer threads.now counts m × (marker < 65536) }
+    requires bound { Bound ground.now.array.trailer threads.now m near.old far.old }
+    ensures { (near.new ≡ near.old) × (far.new ≡ far.old) × (result ≡ min 257 (length
+        (advanced ground.now.array.bytes.now ground.now.array.trailer ground.now.choices.now threads.now counts.threads m marker))) }
 {
-    let other = threads[m.sender * (2 + t.names) + 1];
+    let other = threads[m.sender * (2 + ground.array.trailer.names) + 1];
     let kept = kept_count(counts.threads, records::is_resource(m.p));
-    let mid = unfolds::count_threads(file, t, frees, choices, m.p.left, marker, near, kept);
-    unfolds::count_threads(file, t, frees, choices, m.q.left, other, far, mid)
+    let mid = ground.count_threads(m.p.left, marker, near, kept);
+    ground.count_threads(m.q.left, other, far, mid)
 }
 
 // Writes the threads after the step, which fit.
 fn write_after(
-    file: &[u8],
-    t: Trailer,
-    frees: &[u64],
-    choices: &[u8],
+    ground: &Ground,
     threads: &mut [u32],
     counts: Counts,
     m: Meeting,
@@ -162,122 +146,109 @@ fn write_after(
     near: &mut [u32],
     far: &mut [u32],
 )
-    requires prepared { Prepared file.now t frees.now choices.now × Meets file.now t threads.old counts m × (marker < 65536) }
-    requires bound { Bound t threads.old m near.old far.old }
-    requires marker_len_bound { length (advanced file.now t choices.now threads.old counts.threads m marker) ≤ thread_room t.names threads.old }
+    requires meets { Meets ground.now.array.bytes.now ground.now.array.trailer threads.old counts m × (marker < 65536) }
+    requires bound { Bound ground.now.array.trailer threads.old m near.old far.old }
+    requires marker_len_bound { length
+        (advanced ground.now.array.bytes.now ground.now.array.trailer ground.now.choices.now threads.old counts.threads m marker)
+        ≤ thread_room ground.now.array.trailer.names threads.old }
     ensures { threads.new ≡ put 0 (words_of
-        (advanced file.now t choices.now threads.old counts.threads m marker)) threads.old }
+        (advanced ground.now.array.bytes.now ground.now.array.trailer ground.now.choices.now threads.old counts.threads m marker)) threads.old }
 {
-    let other = threads[m.sender * (2 + t.names) + 1];
+    let names = ground.array.trailer.names;
+    let other = threads[m.sender * (2 + names) + 1];
     let resource = records::is_resource(m.p);
     let kept = kept_count(counts.threads, resource);
     threads::keep_threads(
         threads,
-        t.names,
+        names,
         counts.threads,
         m.receiver,
         m.sender,
         resource,
     );
-    let mid = unfolds::unfold_node(
-        file, t, frees, choices, m.p.left, marker, near, threads, kept,
-    );
-    unfolds::unfold_node(file, t, frees, choices, m.q.left, other, far, threads, mid);
+    let mid = ground.unfold_node(m.p.left, marker, near, threads, kept);
+    ground.unfold_node(m.q.left, other, far, threads, mid);
 }
 
 // The step of a meeting, or its refusal by 28 or 29. Near and far are room for the two environments.
 fn fire_meeting(
-    file: &[u8],
-    t: Trailer,
-    frees: &[u64],
-    choices: &[u8],
+    ground: &Ground,
     threads: &mut [u32],
     markers: &mut [u16],
     counts: Counts,
     m: Meeting,
     near: &mut [u32],
     far: &mut [u32],
-) -> Fired
-    requires prepared { Prepared file.now t frees.now choices.now × Meets file.now t threads.old counts m }
-    requires markers_bound { (counts.markers ≤ marker_room markers.old) × (length near.old ≡ t.names) × (length far.old ≡ t.names) }
-    ensures { Makes file.now t choices.now threads.old markers.old counts m
+) -> Result<Fired, Reason>
+    requires meets { Meets ground.now.array.bytes.now ground.now.array.trailer threads.old counts m }
+    requires markers_bound { (counts.markers ≤ marker_room markers.old)
+        × (length near.old ≡ ground.now.array.trailer.names) × (length far.old ≡ ground.now.array.trailer.names) }
+    ensures { Makes ground.now.array.bytes.now ground.now.array.trailer ground.now.choices.now threads.old markers.old counts m
         result threads.new markers.new }
 {
+    let t = ground.array.trailer;
     let marker = marker_for(t, threads, markers, counts, m);
     bind_both(t, threads, m, near, far);
     let number = marker.number;
-    let listed = marker.markers;
-    let total = count_after(
-        file, t, frees, choices, threads, counts, m, number, near, far,
-    );
+    let total = count_after(ground, threads, counts, m, number, near, far);
     if !lent::threads_fit(threads, t.names, total) {
-        return Fired::Stopped(28);
+        return Err(Reason::Threads);
     }
+    let listed = counts.markers + usize::from(marker.added.is_some());
     if !lent::markers_fit(markers, listed) {
-        return Fired::Stopped(29);
+        return Err(Reason::Markers);
     }
-    markers::add_if(
-        markers,
-        counts.markers < listed,
-        counts.markers,
-        marker.entry,
-    );
-    write_after(
-        file, t, frees, choices, threads, counts, m, number, near, far,
-    );
-    Fired::Made(
-        Counts {
+    if let Some(entry) = marker.added {
+        markers::add_entry(markers, counts.markers, entry);
+    }
+    write_after(ground, threads, counts, m, number, near, far);
+    Ok(Fired {
+        counts: Counts {
             threads: total,
             markers: listed,
         },
-        number,
-    )
+        marker: number,
+    })
 }
 
 // The records of the two agents, with their positions.
-fn meeting_at(file: &[u8], t: Trailer, threads: &[u32], receiver: usize, sender: usize) -> Meeting
-    requires { RecordsFit file.now t × Lies t threads.now receiver × Lies t threads.now sender }
-    ensures { result ≡ meeting_at file.now t threads.now receiver sender }
+fn meeting_at(array: &ArrayFile, threads: &[u32], pair: Pair) -> Meeting
+    requires { Lies array.now.trailer threads.now pair.receiver × Lies array.now.trailer threads.now pair.sender }
+    ensures { result ≡ meeting_at array.now.bytes.now array.now.trailer threads.now pair.receiver pair.sender }
 {
-    let width = 2 + t.names;
-    let i = wire::word_index(threads[receiver * width]);
-    let j = wire::word_index(threads[sender * width]);
+    let width = 2 + array.trailer.names;
+    let i = threads[pair.receiver * width] as usize;
+    let j = threads[pair.sender * width] as usize;
     Meeting {
-        receiver,
-        sender,
-        p: records::node_at(file, t, i),
-        q: records::node_at(file, t, j),
+        receiver: pair.receiver,
+        sender: pair.sender,
+        p: array.node_at(i),
+        q: array.node_at(j),
     }
 }
 
 // The step of a ready pair, or its refusal by 28 or 29.
 pub fn fire(
-    file: &[u8],
-    t: Trailer,
-    frees: &[u64],
-    choices: &[u8],
+    ground: &Ground,
     threads: &mut [u32],
     markers: &mut [u16],
     counts: Counts,
-    r: usize,
-    s: usize,
-) -> Fired
-    requires prepared { Prepared file.now t frees.now choices.now }
-    requires counts_value { formed (array_of file.now t) (lent_of threads.old markers.old counts) ≡ true × (r < counts.threads) × (s < counts.threads) }
-    requires nobody_value { meeting (array_of file.now t) (get_or (threads_in t.names counts.threads threads.old) r nobody)
-        (get_or (threads_in t.names counts.threads threads.old) s nobody) ≡ 0 }
-    ensures { Fires file.now t choices.now threads.old markers.old counts r s
-        result threads.new markers.new }
+    pair: Pair,
+) -> Result<Fired, Reason>
+    requires counts_value { formed (array_in ground.now.array) (lent_of threads.old markers.old counts) ≡ true
+        × (pair.receiver < counts.threads) × (pair.sender < counts.threads) }
+    requires nobody_value { meeting (array_in ground.now.array)
+        (get_or (threads_in ground.now.array.trailer.names counts.threads threads.old) pair.receiver nobody)
+        (get_or (threads_in ground.now.array.trailer.names counts.threads threads.old) pair.sender nobody) ≡ 0 }
+    ensures { Fires ground.now.array.bytes.now ground.now.array.trailer ground.now.choices.now threads.old markers.old counts
+        pair.receiver pair.sender result threads.new markers.new }
 {
-    let m = meeting_at(file, t, threads, r, s);
+    let m = meeting_at(&ground.array, threads, pair);
     let mut near = [0u32; 256];
     let mut far = [0u32; 256];
-    let n = t.names;
+    let n = ground.array.trailer.names;
     fire_meeting(
-        file,
-        t,
-        frees,
-        choices,
+        ground,
         threads,
         markers,
         counts,

@@ -11,15 +11,13 @@ use Rattle.laws.proofs.Search.{and_split, test-clear, and_then-split, clear-and_
 use Rattle.wire.specs.Numbers.{u32_at, word_sum}
 use Rattle.model.specs.Formed as F
 use Rattle.records.specs.declared.Trailer.{Trailer}
-use Rattle.records.specs.declared.Refusal.{Refusal}
+use Rattle.std.specs.Prelude.{Ok, Err}
 use Rattle.records.specs.Record.{array_of}
-use Rattle.arrays.specs.declared.ArrayAnswer.TheVariants as A
 use Rattle.arrays.specs.File.{trailer_of, array_refusal, read_array}
 use Rattle.arrays.proofs.Laws.{read-passes, read-refuses}
 use Rattle.layout.specs.declared.Sizes.{Sizes}
 use Rattle.layout.specs.Table.{claim_at, sizes_of, table_of, table_length_fits, table_counts_fit, starts_fit, parts_fit, IsTable}
 use Rattle.layout.specs.Table.{refusal14, refusal19, refusal20, refusal21, refusal30, refusal31}
-use Rattle.tables.specs.declared.TableAnswer.TheVariants.{Refused}
 use Rattle.tables.specs.Read.{table_refusal, sizes_answer, read_table}
 
 pub length-fits : (s : List ℕ) → table_length_fits s ≡ true → 28 ≤ length s
@@ -94,13 +92,13 @@ passed-table f t s e =
 -- ---- the answer, by the array's and the table's
 
 module _ (f s : List ℕ) where
-  pub array-refused : (r : Refusal) → read_array f ≡ A.Refused r → Refused r ≡ read_table f s
+  pub array-refused : (r : F.Refusal) → read_array f ≡ Err r → Err r ≡ read_table f s
   unfolding read_table
   array-refused r e =
       ap (λ x. sizes_answer x (sizes_of (trailer_of f) s))
       (sym (hit-and_then (array_refusal f) (table_refusal f (trailer_of f) s) _ (read-refuses f r e)))
 
-  pub array-read : (t : Trailer) (x : Found F.Refusal) (z : Sizes) → read_array f ≡ A.Read t → x ≡ table_refusal f t s → z ≡ sizes_of t s
+  pub array-read : (t : Trailer) (x : Found F.Refusal) (z : Sizes) → read_array f ≡ Ok t → x ≡ table_refusal f t s → z ≡ sizes_of t s
       → sizes_answer x z ≡ read_table f s
   unfolding read_table
   array-read t x z e found size =

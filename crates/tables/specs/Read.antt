@@ -1,6 +1,6 @@
 -- The table reader: refusals 13 to 21, 30 and 31 in checking order, after the array's, and its answers (01, "Refusals, in checking order"; 02,
 -- request i: "30 .. checked after 21"; request ii: "31 .. checked after 30").
-use Rattle.std.specs.Prelude.{ℕ, List}
+use Rattle.std.specs.Prelude.{ℕ, List, Result, Ok, Err}
 use Rattle.laws.specs.Search.{Found, clear, hit, and_then}
 use Rattle.model.specs.Formed as F
 use Rattle.records.specs.declared.Trailer.{Trailer}
@@ -9,8 +9,6 @@ use Rattle.arrays.specs.File.{array_refusal, trailer_of}
 use Rattle.layout.specs.declared.Sizes.{Sizes}
 use Rattle.layout.specs.Table.{sizes_of, refusal13, refusal14, refusal15, refusal16, refusal17, refusal18, refusal19, refusal20}
 use Rattle.layout.specs.Table.{table_of, refusal21, refusal30, refusal31}
-use Rattle.tables.specs.declared.TableAnswer.{TableAnswer}
-use Rattle.tables.specs.declared.TableAnswer.TheVariants.{Read, Refused}
 
 -- refusals 13 to 21, 30 and 31 of table s for the array file f whose trailer says t, in checking order
 abbrev pub table_refusal : List ℕ → Trailer → List ℕ → Found F.Refusal
@@ -30,11 +28,11 @@ table_refusal f t s =
 abbrev pub files_refusal : List ℕ → List ℕ → Found F.Refusal
 files_refusal f s = and_then (array_refusal f) (table_refusal f (trailer_of f) s)
 
-abbrev pub sizes_answer : Found F.Refusal → Sizes → TableAnswer
-sizes_answer clear z = Read z
-sizes_answer (hit r) z = Refused record { number = r.number; place = r.place }
+abbrev pub sizes_answer : Found F.Refusal → Sizes → Result Sizes F.Refusal
+sizes_answer clear z = Ok z
+sizes_answer (hit r) z = Err r
 
-unfoldable pub read_table : List ℕ → List ℕ → TableAnswer
+unfoldable pub read_table : List ℕ → List ℕ → Result Sizes F.Refusal
 read_table f s = sizes_answer (files_refusal f s) (sizes_of (trailer_of f) s)
 
 -- ---- the rest of the search, from a refusal on

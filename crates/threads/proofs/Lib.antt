@@ -1,2 +1,3 @@
 pub mod Moves
 pub mod Laws
+pub mod Chunks

@@ -1,5 +1,5 @@
-// Threads in a lent list of words: copied, bound, moved together, and checked (the part of refusal 23 that is about threads).
-// Promises equations with the model's threads. Depends on frees, arrays, records, marks, wire, model and laws.
+// Threads in a lent list of words: copied, bound, moved together, and checked by the names of the array (the part of refusal 23 that is
+// about threads). Promises equations with the model's threads. Depends on frees, arrays, records, marks, model and laws.
 #![tactic(auto)]
 
 ghost use Rattle.std.specs.Prelude.{◌≡◌, map, ℕ, ◌+◌, ◌*◌, ◌<◌, ◌≤◌, length, get_or, take, drop};
@@ -12,50 +12,28 @@ ghost use Rattle.model.specs.Memory.{thread_in, threads_in, words_of, thread_for
 ghost use Rattle.records.specs.Record.{args_of, array_of};
 ghost use Rattle.arrays.specs.File.{IsRead};
 ghost use Rattle.frees.specs.Frees.{AllFree};
-ghost use Rattle.threads.specs.Threads.{remains, words_if, word_ok, threads_formed};
+ghost use Rattle.threads.specs.Threads.{remains, word_ok, threads_formed};
 
-use records::{Record, Trailer};
+use records::{ArrayFile, Record};
 
 // ---- words moved and copied
-
-// Moves `count` words from index `from` down to index `to`.
-fn move_down(threads: &mut [u32], from: usize, to: usize, count: usize)
-    requires { (to ≤ from) × (from + count ≤ length threads.old) }
-    ensures { threads.new ≡ put to (take count (drop from threads.old)) threads.old }
-{
-    let mut j: usize = 0;
-    while j < count {
-        threads[to + j] = threads[from + j];
-        j += 1;
-    }
-}
 
 // Copies words from index `from` of a list over all of another.
 pub fn copy_words(threads: &[u32], from: usize, env: &mut [u32])
     requires { from + length env.old ≤ length threads.now }
     ensures { env.new ≡ take (length env.old) (drop from threads.now) }
 {
-    let mut j: usize = 0;
-    while j < env.len() {
-        env[j] = threads[from + j];
-        j += 1;
-    }
+    env.copy_from_slice(&threads[from..from + env.len()]);
 }
 
-// Moves one thread down where it stays, and returns where the next one goes. Before the first that goes, threads are in place.
-fn keep_if(threads: &mut [u32], stays: bool, from: usize, to: usize, width: usize) -> usize
+// Moves one thread down. Before the first that goes, threads are in place.
+fn move_down(threads: &mut [u32], from: usize, to: usize, width: usize)
     requires { (to ≤ from) × (from + width ≤ length threads.old) }
-    ensures { (threads.new ≡ put to (words_if stays from width threads.old) threads.old)
-        × (result ≡ to + length (words_if stays from width threads.old)) }
+    ensures { threads.new ≡ put to (take width (drop from threads.old)) threads.old }
 {
-    if !stays {
-        return to;
+    if to < from {
+        threads.copy_within(from..from + width, to);
     }
-    if to == from {
-        return to + width;
-    }
-    move_down(threads, from, to, width);
-    to + width
 }
 
 // Moves the threads that stay together, in order. Nothing is written past the words that they use.
@@ -72,13 +50,14 @@ pub fn keep_threads(
         ≡ put 0 (words_of (keep (remains resource r s) (threads_in names count threads.old))) threads.old }
 {
     let width = 2 + names;
-    let mut from: usize = 0;
     let mut to: usize = 0;
-    let mut i: usize = 0;
-    while i < count {
-        to = keep_if(threads, (i != s) & (resource | (i != r)), from, to, width);
-        from += width;
-        i += 1;
+    // a loop and no chain: a turn writes where later ones read
+    for i in 0..count {
+        let stays = (i != s) & (resource | (i != r));
+        if stays {
+            move_down(threads, i * width, to, width);
+            to += width;
+        }
     }
 }
 
@@ -90,21 +69,28 @@ pub fn bind_params(p: Record, q: Record, sent: &[u32], env: &mut [u32])
     requires all { All (λ y. y < length env.old) (args_of p) × All (λ z. z < length sent.now) (args_of q) }
     ensures { env.new ≡ bind (args_of p) (map (λ z. get_or sent.now z 0) (args_of q)) env.old }
 {
-    let params = p.args;
-    let args = q.args;
-    let mut k = p.arity;
-    while 0 < k {
-        k -= 1;
-        env[wire::byte_index(params[k])] = sent[wire::byte_index(args[k])];
+    for k in (0..p.arity).rev() {
+        env[usize::from(p.args[k])] = sent[usize::from(q.args[k])];
     }
 }
 
 // ---- well formed
 
+// The names of an array that was read: which are free in each node, and which news open.
+#[derive(Clone, Copy)]
+pub struct Names<'a> {
+    pub array: ArrayFile<'a>,
+    pub frees: &'a [u64],
+    pub news: [u64; 4],
+    ghost read: { IsRead array.bytes.now array.trailer },
+    ghost rows: { length frees.now ≡ 4096 },
+    ghost free: { AllFree frees.now (array_of array.bytes.now array.trailer) },
+    ghost opened: { (o : ℕ) → marked news 0 o ≡ is_new (array_of array.bytes.now array.trailer) o },
+}
+
 // A name's word is 0 exactly where the name isn't free, and otherwise its new is among those opened and its marker number at most
 // `listed`.
-fn word_formed(news: &[u64], listed: usize, free: bool, x: u32) -> bool
-    requires { length news.now ≡ 4 }
+fn word_formed(news: &[u64; 4], listed: usize, free: bool, x: u32) -> bool
     ensures { result ≡ word_ok (marked news.now 0) listed free x }
 {
     if !free {
@@ -113,7 +99,7 @@ fn word_formed(news: &[u64], listed: usize, free: bool, x: u32) -> bool
     if x == 0 {
         return false;
     }
-    let opening = wire::word_index(x - 1);
+    let opening = (x - 1) as usize;
     let new = opening / 65536;
     if 256 <= new {
         return false;
@@ -122,81 +108,47 @@ fn word_formed(news: &[u64], listed: usize, free: bool, x: u32) -> bool
     opens & (opening % 65536 <= listed)
 }
 
-// The words of the names from index `at` on are well formed for agent i.
-fn names_formed(
-    frees: &[u64],
-    news: &[u64],
-    names: usize,
-    listed: usize,
-    i: usize,
-    threads: &[u32],
-    at: usize,
-) -> bool
-    requires { HasRow frees.now i × (length news.now ≡ 4) × (names ≤ 256) × (at + names ≤ length threads.now) }
-    ensures { result ≡ every names (λ v.
-        word_ok (marked news.now 0) listed (marked frees.now i v) (get_or threads.now (at + v) 0)) }
-{
-    let mut v: usize = 0;
-    while v < names {
-        let free = marks::is_marked(frees, i, v);
-        if !word_formed(news, listed, free, threads[at + v]) {
+impl Names<'_> {
+    // The words of all names are well formed for agent i.
+    fn names_formed(&self, listed: usize, i: usize, words: &[u32]) -> bool
+        requires { HasRow self.now.frees.now i × (length words.now ≤ 256) }
+        ensures { result ≡ every (length words.now) (λ v.
+            word_ok (marked self.now.news 0) listed (marked self.now.frees.now i v) (get_or words.now v 0)) }
+    {
+        words.iter().enumerate().all(|(v, word)| word_formed(
+            &self.news,
+            listed,
+            marks::is_marked(self.frees, i, v),
+            *word,
+        ))
+    }
+
+    // A thread is well formed.
+    fn thread_formed(&self, listed: usize, thread: &[u32]) -> bool
+        requires { length thread.now ≡ 2 + self.now.array.trailer.names }
+        ensures { result ≡ thread_formed (array_of self.now.array.bytes.now self.now.array.trailer) listed
+            (thread_in self.now.array.trailer.names thread.now) }
+    {
+        let i = thread[0] as usize;
+        let r = self.array.node_or_stop(i);
+        if !records::is_agent(r) {
             return false;
         }
-        v += 1;
-    }
-    true
-}
-
-// The thread at index `at` is well formed.
-fn thread_formed(
-    file: &[u8],
-    t: Trailer,
-    frees: &[u64],
-    news: &[u64],
-    listed: usize,
-    threads: &[u32],
-    at: usize,
-) -> bool
-    requires read { IsRead file.now t × (at + (2 + t.names) ≤ length threads.now) }
-    requires frees_len { (length frees.now ≡ 4096) × AllFree frees.now (array_of file.now t) }
-    requires news_len { (length news.now ≡ 4) × ((o : ℕ) → marked news.now 0 o ≡ is_new (array_of file.now t) o) }
-    ensures { result ≡ thread_formed (array_of file.now t) listed (thread_in t.names (drop at threads.now)) }
-{
-    let i = wire::word_index(threads[at]);
-    let r = records::node_or_stop(file, t, i);
-    if !records::is_agent(r) {
-        return false;
-    }
-    if listed < wire::word_index(threads[at + 1]) {
-        return false;
-    }
-    names_formed(frees, news, t.names, listed, i, threads, at + 2)
-}
-
-// The first `count` threads are well formed.
-pub fn threads_formed(
-    file: &[u8],
-    t: Trailer,
-    frees: &[u64],
-    news: &[u64],
-    listed: usize,
-    threads: &[u32],
-    count: usize,
-) -> bool
-    requires read { IsRead file.now t × (count ≤ 256) × (count * (2 + t.names) ≤ length threads.now) }
-    requires frees_len { (length frees.now ≡ 4096) × AllFree frees.now (array_of file.now t) }
-    requires news_len { (length news.now ≡ 4) × ((o : ℕ) → marked news.now 0 o ≡ is_new (array_of file.now t) o) }
-    ensures { result ≡ threads_formed (array_of file.now t) (threads_in t.names count threads.now) count listed }
-{
-    let width = 2 + t.names;
-    let mut at: usize = 0;
-    let mut i: usize = 0;
-    while i < count {
-        if !thread_formed(file, t, frees, news, listed, threads, at) {
+        if listed < thread[1] as usize {
             return false;
         }
-        at += width;
-        i += 1;
+        self.names_formed(listed, i, &thread[2..])
     }
-    true
+
+    // The first `count` threads are well formed.
+    pub fn threads_formed(&self, listed: usize, threads: &[u32], count: usize) -> bool
+        requires { (count ≤ 256) × (count * (2 + self.now.array.trailer.names) ≤ length threads.now) }
+        ensures { result ≡ threads_formed (array_of self.now.array.bytes.now self.now.array.trailer)
+            (threads_in self.now.array.trailer.names count threads.now) count listed }
+    {
+        let width = 2 + self.array.trailer.names;
+        threads[..count * width]
+            .chunks_exact(width)
+            .all(|thread| self.thread_formed(listed, thread))
+    }
 }

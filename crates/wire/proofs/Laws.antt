@@ -1,9 +1,37 @@
 -- The word sum grows word by word, and the bits of a number in a file are those of its bytes.
-use Rattle.std.proofs.Common.{◌≡◌, ℕ, zero, suc, ◌+◌, ◌-◌, ◌*◌, ◌/◌, ◌%◌, ◌^◌, ◌<◌, true, false, ltb, ◌⊎◌, List, get_or, ap, ◌∙◌, ap₂, inl, inr, add-zero, add_assoc, add-one, arith, ltb-false, ltb-true}
+use Rattle.std.proofs.Common.{◌≡◌, ℕ, zero, suc, ◌+◌, ◌-◌, ◌*◌, ◌/◌, ◌%◌, ◌^◌, ◌<◌, true, false, ltb, ◌⊎◌, List, get_or, ap, ◌∙◌, ap₂, inl, inr, add-zero, add_assoc, add-one, arith, ltb-false, ltb-true, take, drop, lit<, get_or-take, get_or-drop}
+use Rattle.std.specs.Int.{w16, w32, w64, byte_worth, from_le_bytes}
 use Rattle.laws.specs.Bits.{bit}
 use Rattle.laws.proofs.Search.{decided}
 use Rattle.laws.proofs.Bits.{bit-low, bit_high}
 use Rattle.wire.specs.Numbers.{u16_at, u32_at, u64_at, word_sum}
+
+-- ---- numbers by their bytes, as the library reads them
+
+byte_at : (s : List ℕ) (at n k : ℕ) → k < n → get_or (take n (drop at s)) k 0 ≡ get_or s (at + k) 0
+byte_at s at n k h = rw (get_or-take, get_or-drop)
+
+low_byte : (s : List ℕ) (at n : ℕ) → 0 < n → byte_worth 0 (get_or (take n (drop at s)) 0 0) ≡ get_or s at 0
+low_byte s at n h = byte_at s at n 0 h ∙ ap (λ (k : ℕ). get_or s k 0) (add-zero at)
+
+pub number_2 : (s : List ℕ) (at : ℕ) → from_le_bytes w16 (take 2 (drop at s)) ≡ u16_at s at
+unfolding u16_at
+number_2 s at =
+    let b = byte_at s at 2 in
+    omega (arith, low_byte s at 2 (lit< tt), b 1 (lit< tt))
+
+pub number_4 : (s : List ℕ) (at : ℕ) → from_le_bytes w32 (take 4 (drop at s)) ≡ u32_at s at
+unfolding u32_at
+number_4 s at =
+    let b = byte_at s at 4 in
+    omega (arith, low_byte s at 4 (lit< tt), b 1 (lit< tt), b 2 (lit< tt), b 3 (lit< tt))
+
+pub number_8 : (s : List ℕ) (at : ℕ) → from_le_bytes w64 (take 8 (drop at s)) ≡ u64_at s at
+unfolding u64_at u32_at
+number_8 s at =
+    let b = byte_at s at 8 in
+    let high = λ (k : ℕ). ap (λ (j : ℕ). get_or s j 0) (add_assoc at 4 k) in
+    omega (arith, low_byte s at 8 (lit< tt), b 1 (lit< tt), b 2 (lit< tt), b 3 (lit< tt), b 4 (lit< tt), b 5 (lit< tt), b 6 (lit< tt), b 7 (lit< tt), high 1, high 2, high 3)
 
 pub word_sum-step : (s : List ℕ) (n : ℕ) → word_sum s (n + 1) ≡ (word_sum s n + u32_at s (4 * n)) % 2 ^ 32
 unfolding word_sum

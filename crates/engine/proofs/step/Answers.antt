@@ -3,27 +3,17 @@ use mathlib.Core.Path.{◌≡◌, refl, sym, ◌∙◌}
 use mathlib.Core.Bool.{true}
 use Rattle.model.specs.Memory.{formed}
 use Rattle.records.specs.Record.{array_of}
-use Rattle.unfolds.specs.Unfold.{Prepared}
 use Rattle.lent.specs.Lent.{lent_of}
 use Rattle.engine.proofs.Laws.{checked-23, checked-step}
 use Rattle.engine.proofs.step.Goals as goal
-use Rattle.engine.proofs.step.Goals.{After-lists_formed, Else-not-lists_formed}
-
-prepared : (c : After-lists_formed) → let x = c.args in Prepared x.file.now x.t c.lists_formed.new.frees x.choices.now
-prepared c = record { read = c.requires.0; rows = c.lists_formed.auto.frees; free = c.lists_formed.ensures.0; chosen = c.requires.1 }
+use Rattle.engine.proofs.step.Goals.{Else-not-lists_formed}
 
 passes : (c : Else-not-lists_formed) → let x = c.args in
-    formed (array_of x.file.now x.t) (lent_of x.threads.now x.markers.now x.counts) ≡ true
+    formed (array_of x.array.now.bytes.now x.array.now.trailer) (lent_of x.threads.now x.markers.now x.counts) ≡ true
 passes c = sym c.lists_formed.ensures.1 ∙ c.if-not-lists_formed.false
 
 pub returns-then-not-lists_formed : goal.returns-then-not-lists_formed
 returns-then-not-lists_formed c = ((checked-23 _ _ _ (sym c.lists_formed.ensures.1 ∙ c.if-not-lists_formed.true), refl, refl), tt)
-
-pub step_formed-requires : goal.step_formed-requires
-step_formed-requires c = record {
-  prepared = prepared (goal.at.step_formed-requires c).After-lists_formed;
-  counts_value = passes (goal.at.step_formed-requires c).Else-not-lists_formed;
-}
 
 pub returns : goal.returns
 returns c =

@@ -1,52 +1,66 @@
 -- Positions past the count are 24, a pair that is not ready 25 to 27; the step of a ready pair is `fire`.
 use Prim.Native.Nat.{ℕ, ◌<◌}
 use native.Mathlib.Omega.{arith}
-use mathlib.Core.Path.{refl, ◌∙◌}
+use mathlib.Core.Path.{refl}
+use Rattle.std.proofs.lemmas.Result.{err_from_is_err_and}
 use Rattle.model.proofs.Memory.{slot}
 use Rattle.ready.specs.Ready.{Acts}
+use Rattle.ready.proofs.Told.{some-refusal}
 use Rattle.steps.proofs.Laws.{fit, agent-at}
 use Rattle.engine.proofs.Laws.{step-24, inside, step-refused, meeting-is}
 use Rattle.engine.proofs.step_formed.Goals as goal
+use Rattle.engine.proofs.step_formed.Goals.{Else-count-pair}
 
-pub returns-then-count-r : goal.returns-then-count-r
-returns-then-count-r c =
+-- the positions are below the count
+below : (c : Else-count-pair) → let x = c.args in (x.pair.receiver < x.counts.threads) × (x.pair.sender < x.counts.threads)
+below c =
     let x = c.args in
-    ((step-24 x.file.now x.t x.threads.now x.markers.now x.counts x.choices.now x.r x.s c.if-count-r.true, refl, refl), tt)
+    let g = x.ground.now in
+    inside g.array.bytes.now g.array.trailer x.threads.now x.markers.now x.counts g.choices.now x.pair.receiver x.pair.sender c.if-count-pair.false
 
-pub pair_refusal-n-requires : goal.pair_refusal-n-requires
-pair_refusal-n-requires c =
+pub returns-then-count-pair : goal.returns-then-count-pair
+returns-then-count-pair c =
+    let x = c.args in
+    let g = x.ground.now in
+    ((step-24 g.array.bytes.now g.array.trailer x.threads.now x.markers.now x.counts g.choices.now x.pair.receiver x.pair.sender c.if-count-pair.true, refl, refl), tt)
+
+pub pair_refusal-requires : goal.pair_refusal-requires
+pair_refusal-requires c =
     let x = c.args in
     let l = x.threads.now in
     let ml = x.markers.now in
-    let read = c.requires.prepared.read in
-    let b = inside x.file.now x.t l ml x.counts x.choices.now x.r x.s c.if-count-r.false in
-    let k = fit l ml x.counts read c.requires.counts_value in
-    let acts : (i : ℕ) → i < x.counts.threads → Acts x.file.now x.t l i = λ i h. record {
-      inside = omega (arith, slot x.t.names i x.counts.threads h, k.1);
-      agent = agent-at l ml x.counts read c.requires.counts_value i h;
+    let g = x.ground.now in
+    let t = g.array.trailer in
+    let read = g.prepared.read in
+    let b = below (goal.at.pair_refusal-requires c).Else-count-pair in
+    let k = fit l ml x.counts read c.requires in
+    let acts : (i : ℕ) → i < x.counts.threads → Acts g.array.bytes.now t l i = λ i h. record {
+      inside = omega (arith, slot t.names i x.counts.threads h, k.1);
+      agent = agent-at l ml x.counts read c.requires i h;
     } in
-    (read, acts x.r b.0, acts x.s b.1)
+    (read, acts x.pair.receiver b.0, acts x.pair.sender b.1)
 
-pub returns-then-n-ne0 : goal.returns-then-n-ne0
-returns-then-n-ne0 c =
+pub returns-in_err-pair_refusal : goal.returns-in_err-pair_refusal
+returns-in_err-pair_refusal c =
     let x = c.args in
-    let f = x.file.now in
-    let l = x.threads.now in
-    let ml = x.markers.now in
-    let ch = x.choices.now in
-    let b = inside f x.t l ml x.counts ch x.r x.s c.if-count-r.false in
-    ((step-refused f x.t l ml x.counts ch x.r x.s b.0 b.1 _ c.pair_refusal-n.ensures c.if-n-ne0.true, refl, refl), tt)
+    let g = x.ground.now in
+    let b = below (goal.at.returns-in_err-pair_refusal c).Else-count-pair in
+    let p = err_from_is_err_and c.from_residual.result c.from_residual.ensures.1 in
+    let e = c.in_err-pair_refusal.ensures in
+    rw (p.1, p.2) (
+      (
+        step-refused g.array.bytes.now g.array.trailer x.threads.now x.markers.now x.counts g.choices.now x.pair.receiver x.pair.sender b.0 b.1 _ e
+            (some-refusal c.in_err-pair_refusal.field-0.0),
+        refl,
+        refl,
+      ),
+      tt,
+    )
 
 pub fire-requires : goal.fire-requires
 fire-requires c =
     let x = c.args in
-    let f = x.file.now in
-    let l = x.threads.now in
-    let ml = x.markers.now in
-    let ch = x.choices.now in
-    let b = inside f x.t l ml x.counts ch x.r x.s c.if-count-r.false in
-    let m = meeting-is f x.t l ml x.counts ch x.r x.s b.0 b.1 _ c.pair_refusal-n.ensures in record {
-      prepared = c.requires.prepared;
-      counts_value = (c.requires.counts_value, b.0, b.1);
-      nobody_value = m ∙ c.if-n-ne0.false;
-    }
+    let g = x.ground.now in
+    let b = below (goal.at.fire-requires c).Else-count-pair in
+    let m = meeting-is g.array.bytes.now g.array.trailer x.threads.now x.markers.now x.counts g.choices.now x.pair.receiver x.pair.sender b.0 b.1 0 c.in_ok-pair_refusal.ensures in
+    record { counts_value = (c.requires, b.0, b.1); nobody_value = m }

@@ -12,10 +12,10 @@ use Rattle.engine.proofs.walk_formed.Given as goal
 
 abbrev pub invariant-loop-ending : goal.invariant-loop-ending
 invariant-loop-ending l =
-    (l.allowance.left ≤ l.allowed) × (l.allowance.allowed ≡ l.allowed) × (formed (array_of l.file l.t) (lent_of l.threads l.markers l.used) ≡ true)
+    (l.allowance.left ≤ l.allowed) × (l.allowance.allowed ≡ l.allowed) × (formed (array_of l.ground.array.bytes.now l.ground.array.trailer) (lent_of l.threads l.markers l.used) ≡ true)
     × (length l.threads ≡ length l.initial.threads) × (length l.markers ≡ length l.initial.markers)
-    × (walk_in (array_of l.file l.t) (choices_of l.choices) l.allowed (lent_of l.initial.threads l.initial.markers l.initial.used)
-    ≡ added (l.allowed - l.allowance.left) (walk_in (array_of l.file l.t) (choices_of l.choices) l.allowance.left (lent_of l.threads l.markers l.used)))
+    × (walk_in (array_of l.ground.array.bytes.now l.ground.array.trailer) (choices_of l.ground.choices.now) l.allowed (lent_of l.initial.threads l.initial.markers l.initial.used)
+    ≡ added (l.allowed - l.allowance.left) (walk_in (array_of l.ground.array.bytes.now l.ground.array.trailer) (choices_of l.ground.choices.now) l.allowance.left (lent_of l.threads l.markers l.used)))
 
 abbrev pub decreases-loop-ending : goal.decreases-loop-ending
 decreases-loop-ending l = l.allowance.left

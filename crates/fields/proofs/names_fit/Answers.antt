@@ -4,4 +4,4 @@ use Rattle.fields.proofs.Laws.{names-fit}
 use Rattle.fields.proofs.names_fit.Goals as goal
 
 pub returns : goal.returns
-returns c = rw c.args_below.ensures (names-fit c.args.n c.args.r (search rules))
+returns c = rw (c.is_new.ensures, c.is_agent.ensures, c.args_below.ensures) (names-fit c.args.n c.args.r (search rules))

@@ -1,12 +1,8 @@
 -- The loop's flag says of the argument bytes passed that each of them is used or zero.
-use Prim.Native.Nat.{◌≤◌, ◌-◌}
-use mathlib.Core.Path.{◌≡◌}
+use Rattle.std.proofs.Common.{◌≡◌}
 use Rattle.laws.specs.Search.{every}
 use Rattle.fields.specs.Fields.{rest_zero}
 use Rattle.fields.proofs.rest_zero.Given as goal
 
 abbrev pub invariant-loop-k : goal.invariant-loop-k
-invariant-loop-k l = (l.k ≤ 8) × (l.zero ≡ every l.k (rest_zero l.r))
-
-abbrev pub decreases-loop-k : goal.decreases-loop-k
-decreases-loop-k l = 8 - l.k
+invariant-loop-k l = l.zero ≡ every l.k (rest_zero l.fn.r)

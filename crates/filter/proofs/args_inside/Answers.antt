@@ -1,17 +1,15 @@
-use Prim.Native.Nat.{◌<◌, ◌-◌}
-use mathlib.Core.Path.{◌≡◌, sym}
+use mathlib.Core.Path.{sym}
+use Prim.Native.Nat.{◌<◌}
+use native.Mathlib.Omega.{arith}
 use lib.ListN.{get_or}
 use Rattle.laws.proofs.Search.{every-zero, every-step}
 use Rattle.marks.specs.Marks.{HasRow}
 use Rattle.senders.specs.Sets.{sent_row}
-use Rattle.filter.specs.Filter.{arg_inside}
-use borrow.Author.Rules.{rules}
-use native.Mathlib.Omega.{arith}
 use Rattle.filter.proofs.args_inside.Goals as goal
 use Rattle.filter.proofs.args_inside.Goals.{In-loop-m}
 
 pub loop-m-init : goal.loop-m-init
-loop-m-init c = (search rules, sym (every-zero _))
+loop-m-init c = sym (every-zero _)
 
 -- what the lists have of argument m, seen from the loop's test
 there : (c : In-loop-m) → let x = c.args in let m = c.loop-m.m in
@@ -27,19 +25,8 @@ bounds-args-m c = omega (arith, (there (goal.at.bounds-args-m c).In-loop-m).0)
 pub contained-inside-requires : goal.contained-inside-requires
 contained-inside-requires c =
     let rows = there (goal.at.contained-inside-requires c).In-loop-m in
-    (rw c.sent_row.ensures rows.1, rw c.byte_index.ensures.0 rows.2)
+    (rw c.sent_row.ensures rows.1, rw c.from.ensures rows.2)
 
 pub loop-m-preserved : goal.loop-m-preserved
 loop-m-preserved c =
-    let l = c.loop-m in
-    let x = c.args in
-    let inside = arg_inside x.unions.now x.rows.now x.g x.r.args in (
-      search rules,
-      rw (l.invariant.1, c.contained-inside.ensures, c.byte_index.ensures.0, c.sent_row.ensures)
-          (sym (every-step inside l.m)),
-    )
-
-pub returns : goal.returns
-returns c =
-    let e : c.loop-m.m ≡ c.args.r.arity = omega arith in
-    rw e at c.loop-m.invariant.1
+    rw (c.loop-m.invariant, c.contained-inside.ensures, c.from.ensures, c.sent_row.ensures) (sym (every-step _ c.loop-m.m))

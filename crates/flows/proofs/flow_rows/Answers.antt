@@ -1,4 +1,4 @@
-use Prim.Native.Nat.{◌*◌, ◌-◌}
+use Prim.Native.Nat.{◌*◌}
 use mathlib.Core.Path.{◌≡◌, ◌∙◌}
 use lib.ListN.{length-set}
 use borrow.Author.Count.{below_none}
@@ -9,15 +9,14 @@ use native.Mathlib.Omega.{arith}
 use Rattle.flows.proofs.flow_rows.Goals as goal
 
 pub loop-i-init : goal.loop-i-init
-loop-i-init c = (omega arith, c.requires.0, below_none _)
+loop-i-init c = (omega arith, below_none _)
 
 pub loop-i-preserved : goal.loop-i-preserved
 loop-i-preserved c =
     let l = c.loop-i in (
-      omega arith,
-      length-set l.rows _ _ ∙ l.invariant.1,
+      length-set l.rows _ _ ∙ l.invariant.0,
       set_more (λ k. u64_at c.args.table.now (8 * k)) l.rows l.i c.u64_at.result (omega arith)
-          l.invariant.2 c.u64_at.ensures,
+          l.invariant.1 c.u64_at.ensures,
     )
 
 pub returns : goal.returns
@@ -26,4 +25,4 @@ returns c v o h k =
     let x = c.args in
     let known = c.type_inv.table in
     let e : l.i ≡ 4 * x.z.names = omega arith in
-    marked-bytes x.table.now l.rows x.z.names (λ j. omega (arith, known j)) (rw e at l.invariant.2) v o h k
+    marked-bytes x.table.now l.rows x.z.names (λ j. omega (arith, known j)) (rw e at l.invariant.1) v o h k

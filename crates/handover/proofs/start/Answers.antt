@@ -1,36 +1,26 @@
 -- By what admits the array, then by what the engine answers.
-use Rattle.handover.proofs.Calls.{not-admitted, admitted, start-not, start-stopped, start-started}
+use Rattle.std.proofs.lemmas.Result.{err_from_is_err_and}
+use Rattle.handover.proofs.Calls.{start-not, start-stopped, start-started}
 use Rattle.handover.proofs.start.Goals as goal
 
-pub start-fired-requires : goal.start-fired-requires
-start-fired-requires c =
-    let x = c.args in
-    let a = admitted x.array.now x.choices.now _ c.admit-admitted.ensures _ c.in-Read.is in
-    (a.3, a.2)
+pub start-requires : goal.start-requires
+start-requires c =
+    let a = c.in_ok-file.ensures in
+    (rw (a.bytes) a.read, a.many)
 
-pub returns-in-Refused : goal.returns-in-Refused
-returns-in-Refused c =
+pub returns-in_err-file : goal.returns-in_err-file
+returns-in_err-file c =
     let x = c.args in
-    let f = x.array.now in
-    let ch = x.choices.now in
-    start-not f ch _ (not-admitted f ch _ c.admit-admitted.ensures _ c.in-Refused.is) x.threads.now
+    let p = err_from_is_err_and c.from_residual.result c.from_residual.ensures.1 in
+    rw (p.1, p.2) (start-not x.array.now x.choices.now _ c.in_err-file.ensures x.threads.now)
 
-pub returns-in-Stopped : goal.returns-in-Stopped
-returns-in-Stopped c =
+pub returns-in_err-started : goal.returns-in_err-started
+returns-in_err-started c =
     let x = c.args in
-    let f = x.array.now in
-    let ch = x.choices.now in
-    let a = admitted f ch _ c.admit-admitted.ensures _
-    c.in-Read.is in
-    rw c.numbered.ensures
-    (start-stopped f ch _ a x.threads.now _ _ c.start-fired.ensures.0 _
-    c.in-Stopped.is)
+    let p = err_from_is_err_and c.from_residual-in_err-started.result c.from_residual-in_err-started.ensures.1 in
+    rw (p.1, p.2) (start-stopped x.array.now x.choices.now _ _ c.in_ok-file.ensures x.threads.now _ _ c.start.ensures.0 _ c.in_err-started.was)
 
-pub returns-in-Made : goal.returns-in-Made
-returns-in-Made c =
+pub returns : goal.returns
+returns c =
     let x = c.args in
-    let f = x.array.now in
-    let ch = x.choices.now in
-    let a = admitted f ch _ c.admit-admitted.ensures _
-    c.in-Read.is in
-    start-started f ch _ a x.threads.now _ _ c.start-fired.ensures.0 _ _ c.in-Made.is
+    start-started x.array.now x.choices.now _ _ c.in_ok-file.ensures x.threads.now _ _ c.start.ensures.0 _ c.in_ok-started.was

@@ -1,39 +1,26 @@
 -- By what admits the array, then by what the engine answers.
-use Rattle.handover.proofs.Calls.{not-admitted, admitted, step-not, step-stopped, step-made}
+use Rattle.std.proofs.lemmas.Result.{err_from_is_err_and}
+use Rattle.handover.proofs.Calls.{step-not, step-stopped, step-made}
 use Rattle.handover.proofs.step.Goals as goal
 
-pub step-fired-requires : goal.step-fired-requires
-step-fired-requires c =
-    let x = c.args in
-    let a = admitted x.array.now x.choices.now _ c.admit-admitted.ensures _
-    c.in-Read.is in
-    (a.3, a.2)
+pub step-requires : goal.step-requires
+step-requires c =
+    let a = c.in_ok-file.ensures in
+    (rw (a.bytes) a.read, a.many)
 
-pub returns-in-Refused : goal.returns-in-Refused
-returns-in-Refused c =
+pub returns-in_err-file : goal.returns-in_err-file
+returns-in_err-file c =
     let x = c.args in
-    let f = x.array.now in
-    let ch = x.choices.now in
-    step-not f ch _ (not-admitted f ch _ c.admit-admitted.ensures _ c.in-Refused.is)
-    x.threads.now x.markers.now x.counts x.receiver x.sender
+    let p = err_from_is_err_and c.from_residual.result c.from_residual.ensures.1 in
+    rw (p.1, p.2) (step-not x.array.now x.choices.now _ c.in_err-file.ensures x.threads.now x.markers.now x.counts x.receiver x.sender)
 
-pub returns-in-Stopped : goal.returns-in-Stopped
-returns-in-Stopped c =
+pub returns-in_err-made : goal.returns-in_err-made
+returns-in_err-made c =
     let x = c.args in
-    let f = x.array.now in
-    let ch = x.choices.now in
-    let a = admitted f ch _ c.admit-admitted.ensures _
-    c.in-Read.is in
-    rw c.numbered.ensures
-    (step-stopped f ch _ a x.threads.now x.markers.now x.counts x.receiver x.sender _ _ _
-    c.step-fired.ensures.0 _ c.in-Stopped.is)
+    let p = err_from_is_err_and c.from_residual-in_err-made.result c.from_residual-in_err-made.ensures.1 in
+    rw (p.1, p.2) (step-stopped x.array.now x.choices.now _ _ c.in_ok-file.ensures x.threads.now x.markers.now x.counts x.receiver x.sender _ _ _ c.step.ensures.0 _ c.in_err-made.was)
 
-pub returns-in-Made : goal.returns-in-Made
-returns-in-Made c =
+pub returns : goal.returns
+returns c =
     let x = c.args in
-    let f = x.array.now in
-    let ch = x.choices.now in
-    let a = admitted f ch _ c.admit-admitted.ensures _
-    c.in-Read.is in
-    step-made f ch _ a x.threads.now x.markers.now x.counts x.receiver x.sender _ _ _
-    c.step-fired.ensures.0 _ _ c.in-Made.is
+    step-made x.array.now x.choices.now _ _ c.in_ok-file.ensures x.threads.now x.markers.now x.counts x.receiver x.sender _ _ _ c.step.ensures.0 _ c.in_ok-made.was

@@ -1,40 +1,27 @@
 -- By what admits the array, then by what the engine answers.
-use Rattle.handover.proofs.Calls.{not-admitted, admitted, stride-not, stride-stopped, stride-strode}
+use Rattle.std.proofs.lemmas.Result.{err_from_is_err_and}
+use Rattle.handover.proofs.Calls.{stride-not, stride-stopped, stride-strode}
 use Rattle.handover.proofs.stride.Goals as goal
 
-pub next_turn-strode-requires : goal.next_turn-strode-requires
-next_turn-strode-requires c =
-    let x = c.args in
-    let a = admitted x.array.now x.choices.now _ c.admit-admitted.ensures _
-    c.in-Read.is in
-    (a.3, a.2)
+pub next_turn-requires : goal.next_turn-requires
+next_turn-requires c =
+    let a = c.in_ok-file.ensures in
+    (rw (a.bytes) a.read, a.many)
 
-pub returns-in-Refused : goal.returns-in-Refused
-returns-in-Refused c =
+pub returns-in_err-file : goal.returns-in_err-file
+returns-in_err-file c =
     let x = c.args in
-    let f = x.array.now in
-    let ch = x.choices.now in
-    stride-not f ch _ (not-admitted f ch _ c.admit-admitted.ensures _ c.in-Refused.is)
-    x.threads.now x.markers.now x.counts x.allowance
+    let p = err_from_is_err_and c.from_residual.result c.from_residual.ensures.1 in
+    rw (p.1, p.2) (stride-not x.array.now x.choices.now _ c.in_err-file.ensures x.threads.now x.markers.now x.counts x.allowance)
 
-pub returns-in-Refused-strode : goal.returns-in-Refused-strode
-returns-in-Refused-strode c =
+pub returns-in_err-strode : goal.returns-in_err-strode
+returns-in_err-strode c =
     let x = c.args in
-    let f = x.array.now in
-    let ch = x.choices.now in
-    let a = admitted f ch _ c.admit-admitted.ensures _
-    c.in-Read.is in
-    rw c.numbered.ensures
-    (stride-stopped f ch _ a x.threads.now x.markers.now x.counts x.allowance _ _ _
-    c.next_turn-strode.ensures _ c.in-Refused-strode.is)
+    let p = err_from_is_err_and c.from_residual-in_err-strode.result c.from_residual-in_err-strode.ensures.1 in
+    rw (p.1, p.2) (stride-stopped x.array.now x.choices.now _ _ c.in_ok-file.ensures x.threads.now x.markers.now x.counts x.allowance _ _ _ c.next_turn.ensures _ c.in_err-strode.was)
 
-pub returns-in-Strode : goal.returns-in-Strode
-returns-in-Strode c =
+pub returns : goal.returns
+returns c =
     let x = c.args in
-    let f = x.array.now in
-    let ch = x.choices.now in
-    let a = admitted f ch _ c.admit-admitted.ensures _
-    c.in-Read.is in
-    rw c.stride_of.ensures
-    (stride-strode f ch _ a x.threads.now x.markers.now x.counts x.allowance _ _ _
-    c.next_turn-strode.ensures _ c.in-Strode.is)
+    rw c.told_of.ensures
+    (stride-strode x.array.now x.choices.now _ _ c.in_ok-file.ensures x.threads.now x.markers.now x.counts x.allowance _ _ _ c.next_turn.ensures _ c.in_ok-strode.was)

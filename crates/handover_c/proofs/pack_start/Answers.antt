@@ -1,25 +1,25 @@
 -- By the answer: the counts, or the refusal.
 use mathlib.Core.Path.{sym, ap, ◌∙◌, subst}
 use native.Mathlib.Omega.{arith}
-use Rattle.handover.specs.declared.StartAnswer.{StartAnswer}
-use Rattle.handover.specs.Engine.{says_start}
-use Rattle.handover.specs.Refusals.{StartNumber}
-use Rattle.handover.proofs.Refusals.{start-few}
+use Rattle.std.specs.Prelude.{Result}
+use Prim.Native.Nat.{ℕ}
+use Rattle.records.specs.declared.Refusal.{Refusal}
+use Rattle.handover.specs.Refusals.{said, StartNumber}
 use Rattle.handover_c.specs.Packed.{packed_reply, FitsReply, packed_start, FitsStart}
 use Rattle.handover_c.proofs.pack_start.Goals as goal
 
 pub pack_counts-requires : goal.pack_counts-requires
 pack_counts-requires c =
-    let h = subst (λ (y : StartAnswer). FitsReply FitsStart StartNumber (says_start y)) c.in-Started.is c.requires in
+    let h = subst (λ (y : Result ℕ Refusal). FitsReply FitsStart StartNumber (said y)) c.in-Ok.is c.requires in
     (omega arith, (h.0, omega arith))
 
 pub pack_refusal-requires : goal.pack_refusal-requires
 pack_refusal-requires c =
-    let h = subst (λ (y : StartAnswer). FitsReply FitsStart StartNumber (says_start y)) c.in-Refused.is c.requires in
-    (start-few _ h.0, h.1)
+    let h = subst (λ (y : Result ℕ Refusal). FitsReply FitsStart StartNumber (said y)) c.in-Err.is c.requires in
+    h.1
 
-pub returns-in-Started : goal.returns-in-Started
-returns-in-Started c = c.pack_counts.ensures ∙ ap (λ (y : StartAnswer). packed_reply packed_start (says_start y)) (sym c.in-Started.is)
+pub returns-in-Ok : goal.returns-in-Ok
+returns-in-Ok c = c.pack_counts.ensures ∙ ap (λ (y : Result ℕ Refusal). packed_reply packed_start (said y)) (sym c.in-Ok.is)
 
-pub returns-in-Refused : goal.returns-in-Refused
-returns-in-Refused c = c.pack_refusal.ensures ∙ ap (λ (y : StartAnswer). packed_reply packed_start (says_start y)) (sym c.in-Refused.is)
+pub returns-in-Err : goal.returns-in-Err
+returns-in-Err c = c.pack_refusal.ensures ∙ ap (λ (y : Result ℕ Refusal). packed_reply packed_start (said y)) (sym c.in-Err.is)

@@ -1,17 +1,8 @@
--- `markers::add_entry` meets its contract: four words written one after the other are written at once.
-use Prim.Native.Nat.{◌*◌}
-use lib.ListN.{length-set}
+-- `markers::add_entry` meets its contract: a part of four words is written at once.
 use native.Mathlib.Omega.{arith}
-use Rattle.laws.proofs.Put.{put_four}
+use Prim.Native.Nat.{◌*◌}
+use Rattle.markers.proofs.Laws.{put-part}
 use Rattle.markers.proofs.add_entry.Goals as goal
 
-pub bounds-markers-count-2 : goal.bounds-markers-count-2
-bounds-markers-count-2 c = simp length-set (omega arith)
-
-pub bounds-markers-count-3 : goal.bounds-markers-count-3
-bounds-markers-count-3 c = simp length-set (omega arith)
-
 pub returns : goal.returns
-returns c =
-    let x = c.args in
-    put_four x.markers.now (4 * x.count) x.e.resource x.e.out x.e.left x.e.right c.requires
+returns c = let x = c.args in put-part (4 * x.count) _ x.markers.now (omega arith) c.copy_from_slice.ensures.after

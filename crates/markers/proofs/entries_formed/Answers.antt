@@ -1,53 +1,39 @@
-use mathlib.Core.Path.{◌≡◌, sym, ap, ◌∙◌}
-use mathlib.Core.Bool.{Bool, ◌&&◌}
-use native.Mathlib.Omega.{arith}
+-- `markers::entries_formed` meets its contract: each entry is well formed, and no two are equal.
+use Rattle.std.proofs.Common.{rules, arith, ◌≡◌, ◌∙◌, refl, sym, ap, ℕ, ◌*◌, drop, get_or, Bool}
+use Rattle.std.proofs.lemmas.Iterator.{YieldsList-from_range}
+use Rattle.std.proofs.lemmas.Iterator.Search.{all_from_yields_List}
+use mathlib.Core.Bool.{◌&&◌}
 use Rattle.laws.specs.Search.{every}
-use Rattle.laws.proofs.Search.{every-zero, every-pass, false-every}
-use Rattle.model.specs.Memory.{entries_in, entry_formed, unlike}
+use Rattle.laws.proofs.Search.{every-same}
+use Rattle.model.specs.Numbers.{no_entry}
+use Rattle.model.specs.Memory.{entry_in, entries_in, entry_formed, unlike}
 use Rattle.model.proofs.Memory.{entries_at}
-use Rattle.records.specs.Record.{array_of}
+use Rattle.records.specs.ArrayFile.{array_in}
 use Rattle.markers.specs.Markers.{entries_formed}
+use Rattle.markers.proofs.Laws.{every-below}
 use Rattle.markers.proofs.entries_formed.Goals as goal
-use Rattle.markers.proofs.entries_formed.Goals.{After-entry_formed}
-use Rattle.markers.proofs.entries_formed.Invariants.{formed_at}
+use Rattle.markers.proofs.entries_formed.Goals.{After-all}
 
-tested :
-    (c : After-entry_formed)
-    → let x = c.args in
-    c.entry_formed.result ≡ formed_at (array_of x.file.now x.t) (entries_in x.count x.markers.now) c.loop-k.k
+-- what is asked of each entry alone
+tested : (c : After-all) → let x = c.args in
+    c.all.result ≡ every x.count (λ i. entry_formed (array_in x.array.now) i (get_or (entries_in x.count x.markers.now) i no_entry))
 tested c =
     let x = c.args in
-    c.entry_formed.ensures
-    ∙ ap (entry_formed (array_of x.file.now x.t) c.loop-k.k)
-    (c.entry_at.ensures ∙ sym (entries_at c.loop-k.k x.count x.markers.now (omega arith)))
+    let f : ℕ → Bool = λ i. entry_formed (array_in x.array.now) i (entry_in (drop (4 * i) x.markers.now)) in
+    all_from_yields_List f _ _ c.all.result c.all.ensures.ran (YieldsList-from_range 0 x.count x.count refl (omega arith)) (λ i b q h. search rules)
+    ∙ every-below f x.count
+    ∙ every-same x.count f _ (λ i h. ap (entry_formed (array_in x.array.now) i) (sym (entries_at i x.count x.markers.now h)))
 
-pub loop-k-init : goal.loop-k-init
-loop-k-init c = (omega arith, every-zero _)
-
-pub returns-then-not-entry_formed : goal.returns-then-not-entry_formed
+pub returns-then-all : goal.returns-then-all
 unfolding entries_formed
-returns-then-not-entry_formed c =
+returns-then-all c =
     let x = c.args in
-    let es = entries_in x.count x.markers.now in
-    let fails = sym (tested (goal.at.returns-then-not-entry_formed c).After-entry_formed) ∙ c.if-not-entry_formed.true in
-    sym
-    (ap (λ (b : Bool). b && every x.count (unlike es))
-    (false-every x.count (formed_at (array_of x.file.now x.t) es) c.loop-k.k (omega arith) fails))
+    let each = sym (tested (goal.at.returns-then-all c).After-all) ∙ c.if-all.true in
+    c.entries_unlike.ensures ∙ sym (ap (λ (b : Bool). b && every x.count (unlike (entries_in x.count x.markers.now))) each)
 
-pub loop-k-preserved : goal.loop-k-preserved
-loop-k-preserved c =
-    let x = c.args in
-    let l = c.loop-k in
-    let passes = sym (tested (goal.at.loop-k-preserved c).After-entry_formed) ∙ c.if-not-entry_formed.false in (
-      omega arith,
-      every-pass (formed_at (array_of x.file.now x.t) (entries_in x.count x.markers.now)) l.k l.invariant.1 passes,
-    )
-
-pub returns : goal.returns
+pub returns-else-all : goal.returns-else-all
 unfolding entries_formed
-returns c =
+returns-else-all c =
     let x = c.args in
-    let l = c.loop-k in
-    let e : l.k ≡ x.count = omega arith in
-    c.entries_unlike.ensures
-    ∙ sym (ap (λ (b : Bool). b && every x.count (unlike (entries_in x.count x.markers.now))) (rw e at l.invariant.1))
+    let each = sym (tested (goal.at.returns-else-all c).After-all) ∙ c.if-all.false in
+    c.if-all.false ∙ sym (ap (λ (b : Bool). b && every x.count (unlike (entries_in x.count x.markers.now))) each)

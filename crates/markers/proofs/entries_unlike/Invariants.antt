@@ -1,8 +1,6 @@
 -- `markers::entries_unlike` meets its contract. The loop's invariant: the places of the first k entries are marked, and these are unlike.
-use Prim.Native.Nat.{◌-◌, ◌≤◌}
 use mathlib.Core.Path.{◌≡◌}
 use mathlib.Core.Bool.{true}
-use lib.ListN.{length}
 use Rattle.laws.specs.Search.{every}
 use Rattle.model.specs.Memory.{entries_in, unlike}
 use Rattle.markers.specs.Markers.{Seen}
@@ -10,7 +8,4 @@ use Rattle.markers.proofs.entries_unlike.Given as goal
 
 abbrev pub invariant-loop-k : goal.invariant-loop-k
 invariant-loop-k l =
-    (l.k ≤ l.count) × (length l.seen ≡ 4096) × Seen l.seen l.markers l.k × (every l.k (unlike (entries_in l.count l.markers)) ≡ true)
-
-abbrev pub decreases-loop-k : goal.decreases-loop-k
-decreases-loop-k l = l.count - l.k
+    Seen l.seen l.markers l.k × (every l.k (unlike (entries_in l.count l.markers)) ≡ true)

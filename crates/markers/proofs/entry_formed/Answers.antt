@@ -8,6 +8,4 @@ unfolding entry_formed
 returns c =
     let r = c.is_resource.ensures ∙ ap is_resource c.node_or_stop-resource.ensures in
     let o = c.sends.ensures ∙ ap is_out c.node_or_stop-out.ensures in
-    let i = c.number_index.ensures.0 in
-    let j = c.number_index-2.ensures.0 in
-    rw (r, o, i, j, c.number_index-3.ensures.0, c.number_index-4.ensures.0)
+    rw (r, o, c.from.ensures, c.from-2.ensures, c.from-3.ensures, c.from-4.ensures)

@@ -5,7 +5,4 @@ use Rattle.markers.proofs.slot_of.Goals as goal
 
 pub returns : goal.returns
 unfolding slot_of
-returns c =
-    let r = c.number_index-resource.ensures.0 in
-    let o = c.number_index-out.ensures.0 in
-    (rw (r, o, c.number_index-left.ensures.0, c.number_index-right.ensures.0), omega arith)
+returns c = (rw (c.from-resource.ensures, c.from-out.ensures, c.from-left.ensures, c.from-right.ensures), omega arith)

@@ -1,10 +1,6 @@
 -- The words below w are joined, of a copy of row v.
-use Prim.Native.Nat.{◌≤◌, ◌-◌}
 use Rattle.marks.proofs.Laws.{Joining}
 use Rattle.marks.proofs.join.Given as goal
 
 abbrev pub invariant-loop-w : goal.invariant-loop-w
-invariant-loop-w l = (l.w ≤ 4) × Joining l.initial.one l.one l.u l.row 0 l.w
-
-abbrev pub decreases-loop-w : goal.decreases-loop-w
-decreases-loop-w l = 4 - l.w
+invariant-loop-w l = Joining l.initial.one l.one l.u l.row 0 l.w

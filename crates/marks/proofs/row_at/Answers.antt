@@ -1,7 +1,8 @@
 -- Four words of a row are a row.
+use Rattle.std.proofs.Common.{arith}
+use Rattle.std.proofs.lemmas.Grind.{common_steps}
 use Rattle.marks.proofs.Laws.{row_copied}
 use Rattle.marks.proofs.row_at.Goals as goal
 
 pub returns : goal.returns
-returns c =
-    row_copied _ _ _ _ _ _ c.word_at.ensures c.word_at-2.ensures c.word_at-3.ensures c.word_at-4.ensures
+returns c = row_copied c.args.rows.now c.args.u _ (grind (arith, common_steps))

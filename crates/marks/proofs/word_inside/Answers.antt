@@ -11,5 +11,5 @@ returns c =
     let x = c.args in
     let one = get_or x.one.now (word_at x.u x.w) 0 in
     let other = get_or x.other.now (word_at x.v x.w) 0 in
-    let known = c.shared_slice_known-1.given (word_at x.u x.w) in
+    let known = c.type_inv.one (word_at x.u x.w) in
     rw (c.word_at-x.ensures, c.word_at-y.ensures) (and-whole 64 one other (omega (arith, known)))

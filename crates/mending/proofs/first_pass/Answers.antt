@@ -1,17 +1,10 @@
 -- Every receiver is in reach and every sender chosen.
-use mathlib.Core.Path.{refl}
-use Rattle.mending.proofs.Noting.{given-again}
+use native.Mathlib.Omega.{arith}
+use Rattle.pairs.proofs.Beside.{given-beside}
 use Rattle.mending.proofs.Passing.{clean-first}
 use Rattle.mending.proofs.first_pass.Goals as goal
 
-pub sweep-requires : goal.sweep-requires
-sweep-requires c = (c.requires, refl, refl, refl)
-
-pub shape_of-rows : goal.shape_of-rows
-shape_of-rows c = c.sweep.ensures.grew.size
-
-pub returns : goal.returns
-returns c = record {
-  grew = c.sweep.ensures.grew;
-  clean = clean-first (given-again c.requires c.sweep.ensures.grew.size) _ c.sweep.ensures.swept;
-}
+pub returns-clause-clean : goal.returns-clause-clean
+returns-clause-clean c =
+    let a = c.sweep.ensures in
+    clean-first (given-beside c.args.w.now c.sweep.new.so_far.rows (omega (arith, a.grew.size))) _ a.swept

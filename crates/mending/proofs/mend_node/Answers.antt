@@ -1,64 +1,28 @@
--- A node without figures asks for nothing, one that is out of reach or clear is noted, and of any other all small sets were looked at.
-use mathlib.Core.Path.{◌≡◌, sym, ◌∙◌}
-use mathlib.Core.Bool.{true}
+-- A node without figures asks for nothing, and one that is out of reach or clear is noted.
+use mathlib.Core.Path.{ap}
 use native.Mathlib.Omega.{arith}
-use Rattle.records.specs.Record.{node_of}
-use Rattle.records.specs.Kinds.{is_receiver}
-use Rattle.pairs.specs.Pairs.{Held, setting}
-use Rattle.filter.proofs.Laws.{receives-figures}
-use Rattle.mending.proofs.Growth.{grew_same}
-use Rattle.mending.proofs.Skipping.{channel-there, clear-node, idle-node, node-noted}
+use Rattle.pairs.specs.declared.Side.{Side}
+use Rattle.pairs.specs.Weighing.{beside}
+use Rattle.pairs.proofs.Beside.{given-beside}
+use Rattle.mending.proofs.Along.{held_at}
+use Rattle.mending.proofs.Skipping.{channel-there, clear-node, idle-node}
 use Rattle.mending.proofs.mend_node.Goals as goal
-use Rattle.mending.proofs.mend_node.Goals.{After-node_at, Else-figures-eq0}
 
-held : (c : After-node_at) → Held (let x = c.args in setting x.file.now x.t x.balances x.rows.now x.loads.now x.bounds.now) record { number = c.args.i; node = c.node_at.result }
-held c = record { below = c.requires.given.3; is = c.node_at.ensures }
-
--- a node with figures receives
-receiver : (c : Else-figures-eq0) → is_receiver (node_of c.node_at.result) ≡ true
-receiver c = receives-figures 3 c.args.balances _ (λ e. c.if-figures-eq0.false (c.figures.ensures ∙ e))
-
-pub node_at-requires : goal.node_at-requires
-node_at-requires c = (omega (arith, c.requires.given.0.read.fills), c.requires.given.3)
-
-pub returns-then-figures-eq0 : goal.returns-then-figures-eq0
-returns-then-figures-eq0 c = record {
-  grew = grew_same _ _ _;
-  by_index_2 = λ chosen k large. idle-node (let x = c.args in setting x.file.now x.t x.balances x.rows.now x.loads.now x.bounds.now) (held (goal.at.returns-then-figures-eq0 c).After-node_at) _ chosen _ c.args.on (sym c.figures.ensures ∙ c.if-figures-eq0.true);
-}
+pub returns-in_default-clause-noted : goal.returns-in_default-clause-noted
+returns-in_default-clause-noted c =
+    let x = c.args in
+    let S = beside x.w.now x.so_far.now.rows in
+    idle-node S (held_at S x.i c.requires.below) _ x.scope.now.chosen _ x.scope.now.on c.in_default.ensures
 
 pub receiver_clear-requires : goal.receiver_clear-requires
-receiver_clear-requires c = record {
-  reach_len = (c.requires.given.2, c.requires.by_index.1, c.requires.by_index.2, c.requires.given.0.lists.many_rows);
-  name_bound = channel-there c.requires.given.0 (held (goal.at.receiver_clear-requires c).After-node_at) (receiver (goal.at.receiver_clear-requires c).Else-figures-eq0);
-}
-
-pub returns-then-receiver_clear : goal.returns-then-receiver_clear
-returns-then-receiver_clear c =
-    let x = c.args in record {
-      grew = grew_same _ _ _;
-      by_index_2 = λ chosen k large. clear-node c.requires.given.0 (held (goal.at.returns-then-receiver_clear c).After-node_at) _ chosen _ x.on _ _ large (c.receiver_clear.ensures c.if-receiver_clear.true);
-    }
-
-pub mend_receiver-requires : goal.mend_receiver-requires
-mend_receiver-requires c = record {
-  given = (c.requires.given.0, c.requires.given.1);
-  reads = (held (goal.at.mend_receiver-requires c).After-node_at, receiver (goal.at.mend_receiver-requires c).Else-figures-eq0);
-  by_index = c.requires.by_index.0;
-}
-
-pub shape_of-rows : goal.shape_of-rows
-shape_of-rows c = c.mend_receiver.ensures.grew.size
-
-pub shape_of-names : goal.shape_of-names
-shape_of-names c = c.mend_receiver.ensures.grew.marks
-
-pub returns : goal.returns
-returns c =
+receiver_clear-requires c =
     let x = c.args in
-    let l = c.mend_receiver.new in record {
-      grew = c.mend_receiver.ensures.grew;
-      by_index_2 = λ chosen k large.
-          node-noted (setting x.file.now x.t x.balances l.rows x.loads.now x.bounds.now) l.names chosen x.reach.now x.on x.i
-          c.node_at.result c.node_at.ensures (λ rp there. c.mend_receiver.ensures.by_index_2 chosen k);
-    }
+    let r = c.in-Some.ensures.0 in
+    channel-there (given-beside x.w.now x.so_far.now.rows (omega arith)) r.held r.receives
+
+pub returns-then-receiver_clear-clause-noted : goal.returns-then-receiver_clear-clause-noted
+returns-then-receiver_clear-clause-noted c =
+    let x = c.args in
+    clear-node (given-beside x.w.now x.so_far.now.rows (omega arith)) c.in-Some.ensures.0.held x.i
+    (ap (λ (p : Side). p.number) c.in-Some.ensures.1) _ x.scope.now.chosen _ x.scope.now.on c.requires.large
+    (c.receiver_clear.ensures c.if-receiver_clear.true)

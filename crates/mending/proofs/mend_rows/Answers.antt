@@ -1,39 +1,24 @@
-use mathlib.Core.Path.{sym, ◌∙◌}
-use borrow.Author.Rules.{rules}
+use mathlib.Core.Path.{◌≡◌, sym, ◌∙◌}
+use lib.ListN.{length}
 use native.Mathlib.Omega.{arith}
-use Rattle.mending.proofs.Noting.{given-again}
-use Rattle.mending.proofs.Passing.{between-same, between_more, between-after, pass-weight, finish}
+use Rattle.pairs.proofs.Beside.{given-beside}
+use Rattle.mending.proofs.Passing.{between_more, between-after, pass-weight, finish}
 use Rattle.mending.proofs.mend_rows.Goals as goal
 
-pub loop-t-init : goal.loop-t-init
-loop-t-init c = (between-same _, c.first_pass-names.ensures.clean, c.first_pass-names.ensures.grew.marks)
+pub loop-none-smaller : goal.loop-none-smaller
+loop-none-smaller c =
+    let l = c.loop-none in
+    let many : length l.so_far.rows ≡ 1024 = omega (arith, l.invariant.between.size, c.first_pass.ensures.grew.size) in
+    pass-weight (given-beside c.args.w.now l.so_far.rows many) c.pass.ensures.grew l.so_far.names (sym c.contained.ensures ∙ c.loop-none-test.true)
 
-pub contained-requires : goal.contained-requires
-contained-requires c = (omega (arith, c.loop-t.invariant.2), search rules)
-
-pub pass-names-requires : goal.pass-names-requires
-pass-names-requires c =
-    let l = c.loop-t.invariant in record {
-      given = given-again c.requires (l.0.size ∙ c.first_pass-names.ensures.grew.size);
-      len = (l.2, l.1);
-    }
-
-pub loop-t-smaller : goal.loop-t-smaller
-loop-t-smaller c =
-    let l = c.loop-t in
-    pass-weight (given-again c.requires (l.invariant.0.size ∙ c.first_pass-names.ensures.grew.size))
-    c.pass-names.ensures.grew l.names
-    (sym c.contained.ensures ∙ c.loop-t-test.true)
-
-pub loop-t-preserved : goal.loop-t-preserved
-loop-t-preserved c =
-    (between_more c.loop-t.invariant.0 c.pass-names.ensures.grew, c.pass-names.ensures.clean, c.pass-names.ensures.grew.marks)
-
-pub shape_of-rows : goal.shape_of-rows
-shape_of-rows c = c.loop-t.invariant.0.size ∙ c.first_pass-names.ensures.grew.size
+pub loop-none-preserved : goal.loop-none-preserved
+loop-none-preserved c =
+    let a = c.pass.ensures in
+    record { between = between_more c.loop-none.invariant.between a.grew; clean = a.clean; names = a.grew.marks }
 
 pub returns : goal.returns
 returns c =
-    let l = c.loop-t in
-    finish c.requires (between-after c.first_pass-names.ensures.grew l.invariant.0) l.names l.invariant.2
-    l.invariant.1 (sym c.contained.ensures ∙ c.loop-t-test.false)
+    let l = c.loop-none.invariant in
+    let x = c.args in
+    finish (given-beside x.w.now x.so_far.now.rows (omega arith)) (between-after c.first_pass.ensures.grew l.between) _ l.names l.clean
+    (sym c.contained.ensures ∙ c.loop-none-test.false)

@@ -2,15 +2,17 @@
 -- mark, or leaves no name.
 use mathlib.Core.Path.{◌≡◌}
 use lib.ListN.{length}
-use Rattle.records.specs.Record.{array_of}
-use Rattle.pairs.specs.Pairs.{setting}
+use Rattle.pairs.specs.Weighing.{beside, array_weighed}
 use Rattle.mending.specs.Growing.{Clean}
 use Rattle.mending.proofs.Passing.{Between, weight}
 use Rattle.mending.proofs.mend_rows.Given as goal
 
-abbrev pub invariant-loop-t : goal.invariant-loop-t
-invariant-loop-t l =
-    Between (setting l.file l.t l.balances l.initial.rows l.loads l.bounds) l.rows × Clean (setting l.file l.t l.balances l.rows l.loads l.bounds) l.names × (length l.names ≡ 4)
+abbrev pub invariant-loop-none : goal.invariant-loop-none
+invariant-loop-none l = record {
+  between : Between (beside l.w l.initial.so_far.rows) l.so_far.rows;
+  clean : Clean (beside l.w l.so_far.rows) l.so_far.names;
+  names : length l.so_far.names ≡ 4;
+}
 
-abbrev pub decreases-loop-t : goal.decreases-loop-t
-decreases-loop-t l = weight (array_of l.file l.t) l.rows l.names
+abbrev pub decreases-loop-none : goal.decreases-loop-none
+decreases-loop-none l = weight (array_weighed l.w) l.so_far.rows l.so_far.names

@@ -1,5 +1,4 @@
 -- The sets passed are clear.
-use Prim.Native.Nat.{◌≤◌, ◌-◌}
 use mathlib.Core.Path.{◌≡◌}
 use mathlib.Core.Bool.{true}
 use Rattle.laws.specs.Search.{every}
@@ -7,7 +6,4 @@ use Rattle.mending.specs.Growing.{set_clear}
 use Rattle.mending.proofs.sets_clear.Given as goal
 
 abbrev pub invariant-loop-n : goal.invariant-loop-n
-invariant-loop-n l = (l.n ≤ 12) × (every l.n (set_clear l.unions l.arities l.rows l.p) ≡ true)
-
-abbrev pub decreases-loop-n : goal.decreases-loop-n
-decreases-loop-n l = 12 - l.n
+invariant-loop-n l = every l.n (set_clear l.sets.unions l.sets.arities l.rows l.p) ≡ true

@@ -1,72 +1,46 @@
 -- A node without figures asks for nothing; a receiver that is clear is noted, also after what was sent to it went to all alike.
-use mathlib.Core.Path.{◌≡◌, sym, ◌∙◌}
-use mathlib.Core.Bool.{true}
+use mathlib.Core.Path.{◌≡◌, ap}
 use native.Mathlib.Omega.{arith}
-use Rattle.records.specs.Record.{node_of}
-use Rattle.records.specs.Kinds.{is_receiver}
-use Rattle.pairs.specs.Pairs.{Held, setting}
-use Rattle.filter.proofs.Laws.{receives-figures}
-use Rattle.mending.proofs.Growth.{grew_same}
-use Rattle.mending.proofs.Noting.{given-again}
-use Rattle.mending.proofs.Skipping.{large-grew, channel-there, clear-node, idle-node}
+use Rattle.pairs.specs.declared.Side.{Side}
+use Rattle.pairs.specs.Weighing.{beside}
+use Rattle.pairs.proofs.Beside.{given-beside}
+use Rattle.mending.proofs.Along.{held_at}
+use Rattle.mending.proofs.Skipping.{stale-grew, channel-there, clear-node, idle-node}
 use Rattle.mending.proofs.settled.Goals as goal
-use Rattle.mending.proofs.settled.Goals.{After-node_at, Else-figures-eq0}
+use Rattle.mending.proofs.settled.Goals.{In-Some}
 
-held : (c : After-node_at) → Held (let x = c.args in setting x.file.now x.t x.balances x.rows.now x.loads.now x.bounds.now) (record { number = c.args.i; node = c.node_at.result })
-held c = record { below = c.requires.given.3; is = c.node_at.ensures }
+-- the receiver is node i
+number : (c : In-Some) → c.in-Some.p.number ≡ c.args.i
+number c = ap (λ (p : Side). p.number) c.in-Some.ensures.1
 
--- a node with figures receives
-receiver : (c : Else-figures-eq0) → is_receiver (node_of c.node_at.result) ≡ true
-receiver c = receives-figures 3 c.args.balances _ (λ e. c.if-figures-eq0.false (c.figures.ensures ∙ e))
-
-pub node_at-requires : goal.node_at-requires
-node_at-requires c = (omega (arith, c.requires.given.0.read.fills), c.requires.given.3)
-
-pub returns-then-figures-eq0 : goal.returns-then-figures-eq0
-returns-then-figures-eq0 c = record {
-  grew = grew_same _ _ _;
-  node_noted = λ e chosen large. idle-node (let x = c.args in setting x.file.now x.t x.balances x.rows.now x.loads.now x.bounds.now) (held (goal.at.returns-then-figures-eq0 c).After-node_at) _ chosen _ c.args.on (sym c.figures.ensures ∙ c.if-figures-eq0.true);
-}
+pub returns-in_default-clause-noted : goal.returns-in_default-clause-noted
+returns-in_default-clause-noted c e =
+    let x = c.args in
+    let S = beside x.w.now x.so_far.now.rows in
+    idle-node S (held_at S x.i c.requires.0) _ x.scope.now.chosen _ x.scope.now.on c.in_default.ensures
 
 pub receiver_clear-requires : goal.receiver_clear-requires
-receiver_clear-requires c = record {
-  reach_len = (c.requires.given.2, c.requires.large_len.0, c.requires.large_len.1, c.requires.given.0.lists.many_rows);
-  name_bound = channel-there c.requires.given.0 (held (goal.at.receiver_clear-requires c).After-node_at) (receiver (goal.at.receiver_clear-requires c).Else-figures-eq0);
-}
+receiver_clear-requires c =
+    let x = c.args in
+    let r = c.in-Some.ensures.0 in
+    channel-there (given-beside x.w.now x.so_far.now.rows (omega arith)) r.held r.receives
 
-pub returns-then-receiver_clear : goal.returns-then-receiver_clear
-returns-then-receiver_clear c =
-    let x = c.args in record {
-      grew = grew_same _ _ _;
-      node_noted = λ e chosen large.
-          clear-node c.requires.given.0 (held (goal.at.returns-then-receiver_clear c).After-node_at) _ chosen _ x.on _ _ large (c.receiver_clear.ensures c.if-receiver_clear.true);
-    }
-
-pub mend_alike-requires : goal.mend_alike-requires
-mend_alike-requires c = record {
-  given = (c.requires.given.0, c.requires.given.1);
-  reads = (held (goal.at.mend_alike-requires c).After-node_at, receiver (goal.at.mend_alike-requires c).Else-figures-eq0);
-  by_index = c.requires.large_len.2;
-}
+pub returns-then-receiver_clear-clause-noted : goal.returns-then-receiver_clear-clause-noted
+returns-then-receiver_clear-clause-noted c e =
+    let x = c.args in
+    clear-node (given-beside x.w.now x.so_far.now.rows (omega arith)) c.in-Some.ensures.0.held x.i
+    (number (goal.at.returns-then-receiver_clear-clause-noted c).In-Some) _ x.scope.now.chosen _ x.scope.now.on c.requires.1
+    (c.receiver_clear.ensures c.if-receiver_clear.true)
 
 pub receiver_clear-requires-2 : goal.receiver_clear-requires-2
 receiver_clear-requires-2 c =
-    let g = given-again c.requires.given.0 c.mend_alike.ensures.size in record {
-      reach_len = (c.requires.given.2, c.requires.large_len.0, c.requires.large_len.1, g.lists.many_rows);
-      name_bound = channel-there g (held (goal.at.receiver_clear-requires-2 c).After-node_at) (receiver (goal.at.receiver_clear-requires-2 c).Else-figures-eq0);
-    }
+    let r = c.in-Some.ensures.0 in
+    channel-there (given-beside c.args.w.now c.mend_alike.new.so_far.rows (omega (arith, c.mend_alike.ensures.size))) r.held r.receives
 
-pub shape_of-rows : goal.shape_of-rows
-shape_of-rows c = c.mend_alike.ensures.size
-
-pub shape_of-names : goal.shape_of-names
-shape_of-names c = c.mend_alike.ensures.marks
-
-pub returns : goal.returns
-returns c =
+pub returns-clause-noted : goal.returns-clause-noted
+returns-clause-noted c e =
     let x = c.args in
-    let a = c.mend_alike.ensures in record {
-      grew = a;
-      node_noted = λ b chosen large.
-          clear-node (given-again c.requires.given.0 a.size) (held (goal.at.returns c).After-node_at) _ chosen _ x.on _ _ (large-grew large a) (c.receiver_clear-2.ensures b);
-    }
+    let grew = c.mend_alike.ensures in
+    clear-node (given-beside x.w.now c.mend_alike.new.so_far.rows (omega (arith, grew.size))) c.in-Some.ensures.0.held x.i
+    (number (goal.at.returns-clause-noted c).In-Some) _ x.scope.now.chosen _ x.scope.now.on (stale-grew c.requires.1 grew)
+    (c.receiver_clear-2.ensures e)

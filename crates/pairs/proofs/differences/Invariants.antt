@@ -1,5 +1,4 @@
 -- The differences of the balances passed are there.
-use Prim.Native.Nat.{◌-◌, ◌≤◌}
 use mathlib.Core.Path.{◌≡◌}
 use lib.ListN.{length}
 use Rattle.pairs.specs.Pairs.{Differences}
@@ -7,7 +6,4 @@ use Rattle.pairs.proofs.differences.Given as goal
 
 abbrev pub invariant-loop-k : goal.invariant-loop-k
 invariant-loop-k l =
-    (l.k ≤ l.balances) × (length l.gives ≡ 24) × (length l.rooms ≡ 24) × Differences l.k l.loads l.bounds l.p l.gives l.rooms
-
-abbrev pub decreases-loop-k : goal.decreases-loop-k
-decreases-loop-k l = l.balances - l.k
+    (length l.gives ≡ 24) × (length l.rooms ≡ 24) × Differences l.k l.loads l.bounds l.p l.gives l.rooms

@@ -1,10 +1,12 @@
-use Prim.Native.Nat.{◌-◌}
-use mathlib.Core.Path.{refl, sym, ◌∙◌, subst}
+use mathlib.Core.Path.{sym, ◌∙◌, subst}
 use Rattle.records.proofs.KindLaws.{receiver-is}
 use Rattle.arrays.proofs.Agents.{left_below}
+use Rattle.std.specs.Prelude.{Option}
 use Rattle.pairs.specs.declared.Place.{Place}
 use Rattle.pairs.specs.declared.Side.{Side}
-use Rattle.pairs.specs.Pairs.{setting, Held, SmallFigure}
+use Rattle.pairs.specs.Pairs.{rule_number, Held, SmallFigure}
+use Rattle.pairs.specs.Weighing.{beside}
+use Rattle.pairs.proofs.Beside.{given-beside}
 use Rattle.pairs.proofs.Laws.{name-row}
 use Rattle.pairs.proofs.ByDifference.{rooms-there, live-by}
 use Rattle.pairs.proofs.Search.{AtReceiver, AtSender, begin, nothing-row, row, nowhere, skip-pair}
@@ -18,14 +20,14 @@ module _ (c : After-node_at) where
   abbrev receiver : Side
   receiver = record { number = c.receiver.i; node = c.node_at.result }
 
-  held-receiver : let x = c.args in Held (setting x.file.now x.t x.balances x.rows.now x.loads.now x.bounds.now) receiver
+  held-receiver : let x = c.args in Held (beside x.w.now x.rows.now) receiver
   held-receiver = record { below = c.receiver-test.true; is = c.node_at.ensures }
 
 -- a receiver with figures, before its senders
 module _ (c : Else-count-eq0) where
-  begun : let x = c.args in let S = setting x.file.now x.t x.balances x.rows.now x.loads.now x.bounds.now in
-      (answer : Place) → AtReceiver x.rule S answer c.receiver.i
-      → AtSender x.rule S (record { number = c.receiver.i; node = c.node_at.result }) c.figures-count.result answer 0
+  begun : let x = c.args in let S = beside x.w.now x.rows.now in
+      (answer : Option Place) → AtReceiver (rule_number x.rule) S answer c.receiver.i
+      → AtSender (rule_number x.rule) S (record { number = c.receiver.i; node = c.node_at.result }) c.figures-count.result answer 0
   begun answer at = row at (record { below = c.receiver-test.true; is = c.node_at.ensures }) c.figures-count.ensures c.if-count-eq0.false
 
 -- a sender, once its record is read
@@ -33,25 +35,25 @@ module _ (c : After-node_at-in-sender) where
   abbrev sender : Side
   sender = record { number = c.sender.j; node = c.node_at-in-sender.result }
 
-  held-sender : let x = c.args in Held (setting x.file.now x.t x.balances x.rows.now x.loads.now x.bounds.now) sender
+  held-sender : let x = c.args in Held (beside x.w.now x.rows.now) sender
   held-sender = record { below = c.sender-test.true; is = c.node_at-in-sender.ensures }
 
 pub receiver-init : goal.receiver-init
 receiver-init c =
-    let pre = c.requires in
-    begin pre.0 pre.1 pre.2
+    begin (given-beside c.args.w.now c.args.rows.now c.told-rows) c.requires.0 c.requires.1
 
 pub receiver-preserved-then-count-eq0 : goal.receiver-preserved-then-count-eq0
 receiver-preserved-then-count-eq0 c =
     nothing-row {p = receiver (goal.at.receiver-preserved-then-count-eq0 c).After-node_at} c.receiver.invariant (held-receiver (goal.at.receiver-preserved-then-count-eq0 c).After-node_at)
     (sym c.figures-count.ensures ∙ c.if-count-eq0.true)
 
-pub differences-requires : goal.differences-requires
-differences-requires c =
-    let w = begun (goal.at.differences-requires c).Else-count-eq0 _ c.receiver.invariant in
+pub differences-margins-requires : goal.differences-margins-requires
+differences-margins-requires c =
+    let w = begun (goal.at.differences-margins-requires c).Else-count-eq0 _ c.receiver.invariant in
     let g = w.receiver.given in
-    let half = g.weighed.half in record {
-      gives_len = (refl, refl, g.lists.many_bounds, g.lists.few);
+    let half = g.weighed.half in
+    record {
+      few = (g.lists.many_bounds, g.lists.few);
       half_row = (half _ w.reads.below, half _ (left_below g.read w.reads (receiver-is _ w.receives).0));
     }
 
@@ -59,9 +61,9 @@ pub sender-init : goal.sender-init
 sender-init c = (
   begun (goal.at.sender-init c).Else-count-eq0 _ c.receiver.invariant,
   record {
-    many_gives = c.differences.auto.gives;
-    many_rooms = c.differences.auto.rooms;
-    are = c.differences.ensures;
+    many_gives = c.differences-margins.ensures.many.0;
+    many_rooms = c.differences-margins.ensures.many.1;
+    are = c.differences-margins.ensures.are;
   },
 )
 
@@ -97,11 +99,6 @@ pub figure_holds-requires : goal.figure_holds-requires
 figure_holds-requires c =
     let b = c.balance.invariant in
     figure-there b.0 b.1 c.balance-test.true
-
-pub overflow_step-n : goal.overflow_step-n
-overflow_step-n c =
-    let small = small-figure c.balance.invariant.0 c.balance-test.true in
-    record { fits = omega (arith, small) }
 
 pub balance-preserved : goal.balance-preserved
 balance-preserved c =

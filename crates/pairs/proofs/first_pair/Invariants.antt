@@ -1,26 +1,18 @@
--- Nothing is found so far, at each of the three loops; each way through them is one law of proofs/Search. The differences are the receiver's.
-use Prim.Native.Nat.{◌-◌}
-use Rattle.pairs.specs.Pairs.{setting, DifferencesOf}
+-- Nothing is found so far, at each of the three loops; each way through them is one law of proofs/Search. The margins are the receiver's.
+use Rattle.pairs.specs.Pairs.{rule_number, DifferencesOf}
+use Rattle.pairs.specs.Weighing.{beside}
 use Rattle.pairs.proofs.Search.{AtReceiver, AtSender, AtFigure}
-use Rattle.pairs.proofs.Search.{found}
 use Rattle.pairs.proofs.first_pair.Given as goal
 
 abbrev pub invariant-balance : goal.invariant-balance
 invariant-balance l =
-    AtFigure l.rule (setting l.file l.t l.balances l.rows l.loads l.bounds) l.p l.count l.q l.answer l.n × DifferencesOf (setting l.file l.t l.balances l.rows l.loads l.bounds) l.p l.gives l.rooms
-
-abbrev pub decreases-balance : goal.decreases-balance
-decreases-balance l = l.count - l.n
+    let S = beside l.w l.rows in
+    AtFigure (rule_number l.rule) S l.p l.count l.q l.answer l.n × DifferencesOf S l.p l.margins.gives l.margins.rooms
 
 abbrev pub invariant-sender : goal.invariant-sender
 invariant-sender l =
-    AtSender l.rule (setting l.file l.t l.balances l.rows l.loads l.bounds) l.p l.count l.answer l.j × DifferencesOf (setting l.file l.t l.balances l.rows l.loads l.bounds) l.p l.gives l.rooms
-
-abbrev pub decreases-sender : goal.decreases-sender
-decreases-sender l = l.t.nodes - l.j
+    let S = beside l.w l.rows in
+    AtSender (rule_number l.rule) S l.p l.count l.answer l.j × DifferencesOf S l.p l.margins.gives l.margins.rooms
 
 abbrev pub invariant-receiver : goal.invariant-receiver
-invariant-receiver l = AtReceiver l.rule (setting l.file l.t l.balances l.rows l.loads l.bounds) l.answer l.i
-
-abbrev pub decreases-receiver : goal.decreases-receiver
-decreases-receiver l = l.t.nodes - l.i
+invariant-receiver l = AtReceiver (rule_number l.rule) (beside l.w l.rows) l.answer l.i

@@ -1,8 +1,7 @@
 -- `ready::act_at` meets its contract: the agent's record says it all.
-use Prim.Native.Nat.{◌+◌, ◌<◌}
+use Prim.Native.Nat.{◌+◌, ◌*◌, ◌<◌}
 use mathlib.Core.Path.{◌≡◌, sym, ap, ◌∙◌, subst}
 use lib.ListN.{get_or, drop}
-use native.Mathlib.Omega.{arith}
 use borrow.Author.Rules.{rules}
 use Rattle.model.specs.Memory.{thread_in, is_out}
 use Rattle.model.proofs.Tree.{agent-inside}
@@ -15,40 +14,40 @@ use Rattle.ready.proofs.act_at.Goals as goal
 use Rattle.ready.proofs.act_at.Goals.{After-node_at-r}
 
 -- the record is that of the thread's agent, whose channel is a name
-record_is : (c : After-node_at-r) → let x = c.args in c.node_at-r.result ≡ record_of x.file.now x.t (get_or x.threads.now x.at 0)
-record_is c =
-    let x = c.args in
-    c.node_at-r.ensures ∙ ap (record_of x.file.now x.t) c.word_index.ensures.0
+record_is : (c : After-node_at-r) → let a = c.args.array.now in
+    c.node_at-r.result ≡ record_of a.bytes.now a.trailer (get_or c.args.threads.now (c.args.i * (2 + a.trailer.names)) 0)
+record_is c = c.node_at-r.ensures
 
-named : (c : After-node_at-r) → c.node_at-r.result.name < c.args.t.names
+named : (c : After-node_at-r) → c.node_at-r.result.name < c.args.array.now.trailer.names
 named c =
-    subst (λ (r : Record). r.name < c.args.t.names) (sym (record_is c)) (agent-name c.args.file.now c.args.t c.requires.read.0 _ c.requires.at_value)
+    let a = c.args.array.now in
+    subst (λ (r : Record). r.name < a.trailer.names) (sym (record_is c)) (agent-name a.bytes.now a.trailer c.requires.0 _ c.requires.1.agent)
 
 pub node_at-r-requires : goal.node_at-r-requires
 node_at-r-requires c =
-    let inside = agent-inside (array_of c.args.file.now c.args.t) _ c.requires.at_value in
-    let fills = c.requires.read.0.fills in
-    let i = c.word_index.ensures.0 in
-    (omega arith, omega arith)
+    let a = c.args.array.now in
+    agent-inside (array_of a.bytes.now a.trailer) _ c.requires.1.agent
 
 pub overflow_add-result-2 : goal.overflow_add-result-2
-overflow_add-result-2 c = let name = named (goal.at.overflow_add-result-2 c).After-node_at-r in search rules
+overflow_add-result-2 c = let name = named (goal.at.overflow_add-result-2 c).After-node_at-r in let h = c.requires.1.inside in search rules
 
 pub offset_bounds-threads-at-2 : goal.offset_bounds-threads-at-2
-offset_bounds-threads-at-2 c = let name = named (goal.at.offset_bounds-threads-at-2 c).After-node_at-r in search rules
+offset_bounds-threads-at-2 c = let name = named (goal.at.offset_bounds-threads-at-2 c).After-node_at-r in let h = c.requires.1.inside in search rules
 
 pub bounds-threads-at-2 : goal.bounds-threads-at-2
-bounds-threads-at-2 c = let name = named (goal.at.bounds-threads-at-2 c).After-node_at-r in search rules
+bounds-threads-at-2 c = let name = named (goal.at.bounds-threads-at-2 c).After-node_at-r in let h = c.requires.1.inside in search rules
 
 pub returns : goal.returns
 returns c =
-    let x = c.args in
-    let s = x.file.now in
-    let l = x.threads.now in
-    let it = thread_in x.t.names (drop x.at l) in
-    let r : c.node_at-r.result ≡ record_of s x.t it.agent = record_is (goal.at.returns c).After-node_at-r ∙ ap (record_of s x.t) (sym (agent-word x.t.names x.at l)) in
-    let word : get_or l (x.at + 2 + c.node_at-r.result.name) 0 ≡ get_or it.env (record_of s x.t it.agent).name 0 =
-    sym (name-word x.t.names x.at l _ (named (goal.at.returns c).After-node_at-r)) ∙ ap (λ (v : Record). get_or it.env v.name 0) r in
+    let a = c.args.array.now in
+    let s = a.bytes.now in
+    let t = a.trailer in
+    let l = c.args.threads.now in
+    let at = c.args.i * (2 + t.names) in
+    let it = thread_in t.names (drop at l) in
+    let r : c.node_at-r.result ≡ record_of s t it.agent = record_is (goal.at.returns c).After-node_at-r ∙ ap (record_of s t) (sym (agent-word t.names at l)) in
+    let word : get_or l (at + 2 + c.node_at-r.result.name) 0 ≡ get_or it.env (record_of s t it.agent).name 0 =
+    sym (name-word t.names at l _ (named (goal.at.returns c).After-node_at-r)) ∙ ap (λ (v : Record). get_or it.env v.name 0) r in
     let receives = c.receives.ensures ∙ ap (λ (v : Record). is_receiver (node_of v)) r in
     let sends = c.sends.ensures ∙ ap (λ (v : Record). is_out (node_of v)) r in
     λ i. record { receives = receives i; sends = sends i; arity = (r i).arity; channel = word i }

@@ -1,47 +1,42 @@
--- Rules 1 and 2, then the others, each where the one before it is held.
-use mathlib.Core.Path.{◌≡◌, sym, ◌∙◌}
-use Rattle.model.specs.Rules.{check1, check2, verdict}
-use Rattle.records.specs.Record.{array_of}
-use Rattle.pairs.specs.Pairs.{list_table}
-use Rattle.rules.specs.Ruling.{ruled, claimed}
-use Rattle.rules.proofs.Laws.{ends, goes_on, rule-one, rule-two}
-use native.Mathlib.Omega.{arith}
+-- Each rule, where those before it are kept.
+use mathlib.Core.Path.{◌∙◌}
+use Rattle.model.specs.Rules.{verdict}
+use Rattle.rules.proofs.Laws.{ends, rule-one, rule-two, rule-three, rule-four, rule-five, past-one, past-two, past-three, past-four}
 use Rattle.rules.proofs.all_rules.Goals as goal
-use Rattle.rules.proofs.all_rules.Goals.{After-first_rule-first, After-second_rule-second}
 
-one : (c : After-first_rule-first) → ruled c.first_rule-first.result ≡ check1 (let x = c.args in array_of x.file.now x.t) (let x = c.args in claimed (list_table x.rows.now x.loads.now x.bounds.now x.z.balances) x.table.now x.z)
-one c = c.first_rule-first.ensures ∙ rule-one c.requires
-
-two : (c : After-second_rule-second) → ruled c.second_rule-second.result ≡ check2 (let x = c.args in array_of x.file.now x.t) (let x = c.args in claimed (list_table x.rows.now x.loads.now x.bounds.now x.z.balances) x.table.now x.z)
-two c = c.second_rule-second.ensures ∙ rule-two c.requires
-
-pub first_rule-first-requires : goal.first_rule-first-requires
-first_rule-first-requires c =
-    let p = c.requires in
-    (omega (arith, p.given.read.fills), p.given.read.formed.few_names, p.given.lists.many_rows)
-
-pub returns-then-not-is_held : goal.returns-then-not-is_held
+pub returns-in_err-first_rule : goal.returns-in_err-first_rule
 unfolding verdict
-returns-then-not-is_held c = ends _ _ c.first_rule-first.result (one (goal.at.returns-then-not-is_held c).After-first_rule-first) (sym c.is_held.ensures ∙ c.if-not-is_held.true)
+returns-in_err-first_rule c =
+    let x = c.args in
+    let e = c.in_err-first_rule in
+    ends _ e.field-0.0 c.from_residual.result (e.ensures ∙ rule-one x.w.now x.rows.now x.table.now.bytes.now x.table.now.sizes) c.from_residual.ensures.1
 
-pub second_rule-second-requires : goal.second_rule-second-requires
-second_rule-second-requires c =
-    let p = c.requires in
-    (omega (arith, p.given.lists.few, p.given.lists.many_bounds), p.given.weighed.half 0 p.given.read.formed.some)
+pub returns-in_err-second_rule : goal.returns-in_err-second_rule
+returns-in_err-second_rule c =
+    let x = c.args in
+    let e = c.in_err-second_rule in
+    let r = c.from_residual-in_err-second_rule in
+    past-one x.w.now x.rows.now x.table.now.bytes.now x.table.now.sizes c.in_ok-first_rule.ensures
+    (ends _ e.field-0.0 r.result (e.ensures ∙ rule-two x.w.now x.rows.now x.table.now.bytes.now x.table.now.sizes) r.ensures.1)
 
-pub returns-then-not-is_held-2 : goal.returns-then-not-is_held-2
-unfolding verdict
-returns-then-not-is_held-2 c =
-    goes_on _ _ c.first_rule-first.result (one (goal.at.returns-then-not-is_held-2 c).After-first_rule-first)
-    (sym c.is_held.ensures ∙ c.if-not-is_held.false)
-    (ends _ _ c.second_rule-second.result (two (goal.at.returns-then-not-is_held-2 c).After-second_rule-second) (sym c.is_held-2.ensures ∙ c.if-not-is_held-2.true))
+pub returns-in_err-pair_rule : goal.returns-in_err-pair_rule
+returns-in_err-pair_rule c =
+    let x = c.args in
+    let e = c.in_err-pair_rule in
+    let r = c.from_residual-in_err-pair_rule in
+    past-two x.w.now x.rows.now x.table.now.bytes.now x.table.now.sizes c.in_ok-first_rule.ensures c.in_ok-second_rule.ensures
+    (ends _ e.field-0.0 r.result (e.ensures ∙ rule-three x.w.now x.rows.now x.table.now.bytes.now x.table.now.sizes) r.ensures.1)
 
-pub later_rules-requires : goal.later_rules-requires
-later_rules-requires c = c.requires
+pub returns-in_err-pair_rule-2 : goal.returns-in_err-pair_rule-2
+returns-in_err-pair_rule-2 c =
+    let x = c.args in
+    let e = c.in_err-pair_rule-2 in
+    let r = c.from_residual-in_err-pair_rule-2 in
+    past-three x.w.now x.rows.now x.table.now.bytes.now x.table.now.sizes c.in_ok-first_rule.ensures c.in_ok-second_rule.ensures c.in_ok-pair_rule.ensures
+    (ends _ e.field-0.0 r.result (e.ensures ∙ rule-four x.w.now x.rows.now x.table.now.bytes.now x.table.now.sizes) r.ensures.1)
 
 pub returns : goal.returns
-unfolding verdict
 returns c =
-    goes_on _ _ c.first_rule-first.result (one (goal.at.returns c).After-first_rule-first)
-    (sym c.is_held.ensures ∙ c.if-not-is_held.false)
-    (goes_on _ _ c.second_rule-second.result (two (goal.at.returns c).After-second_rule-second) (sym c.is_held-2.ensures ∙ c.if-not-is_held-2.false) c.later_rules.ensures)
+    let x = c.args in
+    past-four x.w.now x.rows.now x.table.now.bytes.now x.table.now.sizes c.in_ok-first_rule.ensures c.in_ok-second_rule.ensures c.in_ok-pair_rule.ensures c.in_ok-pair_rule-2.ensures
+    (c.fifth_rule.ensures ∙ rule-five x.w.now x.rows.now x.table.now.bytes.now x.table.now.sizes c.requires.sets)

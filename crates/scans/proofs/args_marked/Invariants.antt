@@ -1,13 +1,8 @@
--- The loop's invariant: `found` says whether the first k argument bytes are marked.
-use Prim.Native.Nat.{◌≤◌, ◌-◌}
-use mathlib.Core.Path.{◌≡◌}
+-- The loop's invariant: `found` says whether the arguments passed are marked.
+use Rattle.std.proofs.Common.{◌≡◌, get_or}
 use Rattle.laws.specs.Search.{every}
 use Rattle.marks.specs.Marks.{marked}
-use Rattle.scans.specs.Pass.{arg_at}
 use Rattle.scans.proofs.args_marked.Given as goal
 
-abbrev pub invariant-loop-k : goal.invariant-loop-k
-invariant-loop-k l = (l.k ≤ l.arity) × (l.found ≡ every l.k (λ n. marked l.reach l.i (arg_at l.file l.at n)))
-
-abbrev pub decreases-loop-k : goal.decreases-loop-k
-decreases-loop-k l = l.arity - l.k
+abbrev pub invariant-loop-arg : goal.invariant-loop-arg
+invariant-loop-arg l = l.found ≡ every l.arg-index (λ n. marked l.reach l.i (get_or l.args n 0))

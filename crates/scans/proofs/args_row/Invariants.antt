@@ -1,15 +1,8 @@
--- The loop's invariant: the first k argument bytes are marked.
-use Prim.Native.Nat.{ℕ, ◌≤◌, ◌-◌}
-use mathlib.Core.Path.{◌≡◌}
-use lib.Dec.{eqb}
-use lib.ListN.{length}
+-- The loop's invariant: the arguments passed are marked.
+use Rattle.std.proofs.Common.{◌≡◌, ℕ, eqb, length, get_or}
 use Rattle.laws.specs.Search.{any}
 use Rattle.marks.specs.Marks.{marked}
-use Rattle.scans.specs.Pass.{arg_at}
 use Rattle.scans.proofs.args_row.Given as goal
 
-abbrev pub invariant-loop-k : goal.invariant-loop-k
-invariant-loop-k l = (l.k ≤ l.arity) × (length l.row ≡ 4) × ((v : ℕ) → marked l.row 0 v ≡ any l.k (λ n. eqb v (arg_at l.file l.at n)))
-
-abbrev pub decreases-loop-k : goal.decreases-loop-k
-decreases-loop-k l = l.arity - l.k
+abbrev pub invariant-loop-arg : goal.invariant-loop-arg
+invariant-loop-arg l = (length l.row ≡ 4) × ((v : ℕ) → marked l.row 0 v ≡ any l.arg-index (λ n. eqb v (get_or l.args n 0)))

@@ -1,40 +1,9 @@
--- By its kind, of the record that was read.
-use Prim.Native.Nat.{◌+◌, ◌*◌}
-use native.Mathlib.Omega.{arith}
-use mathlib.Core.Path.{sym, ◌∙◌}
+-- By its kind.
+use Rattle.std.proofs.Common.{sym, ◌∙◌}
 use Rattle.scans.proofs.pass_node.Goals as goal
 
-pub node_at-r-requires : goal.node_at-r-requires
-node_at-r-requires c = (c.requires.0, c.requires.1.here)
-
 pub pass_agent-requires : goal.pass_agent-requires
-pass_agent-requires c =
-    let x = c.args in
-    let known = c.type_inv.file (x.t.start + 16 * x.i + 6) in
-    let read = c.node_at-r.ensures in
-    let kind = c.is_agent.ensures in
-    let agent = sym kind ∙ c.if-is_agent.true in record {
-      records_fit = c.requires;
-      r_value = (read, rw read (omega (arith, known)), agent);
-    }
-
-pub returns-then-is_agent : goal.returns-then-is_agent
-returns-then-is_agent c e =
-    let read = c.node_at-r.ensures in
-    rw read at (c.pass_agent.ensures e)
+pass_agent-requires c = record { ready = c.requires.0; agent = (c.requires.1, sym c.is_agent.ensures ∙ c.if-is_agent.true) }
 
 pub pass_other-requires : goal.pass_other-requires
-pass_other-requires c =
-    let x = c.args in
-    let known = c.type_inv.file (x.t.start + 16 * x.i + 6) in
-    let read = c.node_at-r.ensures in
-    let kind = c.is_agent.ensures in
-    let agent = sym kind ∙ c.if-is_agent.false in record {
-      records_fit = c.requires;
-      r_value = (read, rw read (omega (arith, known)), agent);
-    }
-
-pub returns : goal.returns
-returns c e =
-    let read = c.node_at-r.ensures in
-    rw read at (c.pass_other.ensures e)
+pass_other-requires c = record { ready = c.requires.0; no_agent = (c.requires.1, sym c.is_agent.ensures ∙ c.if-is_agent.false) }

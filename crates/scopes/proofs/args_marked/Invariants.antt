@@ -1,5 +1,5 @@
 -- `scopes::args_marked` meets its contract. The loop's invariant: `found` says whether the first k arguments are marked.
-use Prim.Native.Nat.{ℕ, ◌≤◌, ◌-◌}
+use Prim.Native.Nat.{ℕ}
 use mathlib.Core.Path.{◌≡◌}
 use mathlib.Core.Bool.{Bool, ◌||◌}
 use mathlib.Core.List.{List}
@@ -15,7 +15,4 @@ abbrev pub arg_in : List ℕ → ℕ → Record → ℕ → Bool
 arg_in reach i r n = leb r.arity n || marked reach i (get_or r.args n 0)
 
 abbrev pub invariant-loop-k : goal.invariant-loop-k
-invariant-loop-k l = (l.k ≤ 8) × (l.found ≡ every l.k (arg_in l.reach l.i l.r))
-
-abbrev pub decreases-loop-k : goal.decreases-loop-k
-decreases-loop-k l = 8 - l.k
+invariant-loop-k l = l.found ≡ every l.k (arg_in l.reach l.i l.fn.r)

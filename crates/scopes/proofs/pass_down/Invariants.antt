@@ -1,12 +1,7 @@
 -- `scopes::pass_down` meets its contract. The loop's invariant: the table is the one passed in with the first w words written.
-use Prim.Native.Nat.{◌≤◌, ◌-◌}
 use mathlib.Core.Path.{◌≡◌}
-use lib.ListN.{length}
 use Rattle.scopes.specs.Scope.{passed}
 use Rattle.scopes.proofs.pass_down.Given as goal
 
 abbrev pub invariant-loop-w : goal.invariant-loop-w
-invariant-loop-w l = (l.w ≤ 4) × (length l.reach ≡ length l.initial.reach) × (l.reach ≡ passed l.initial.reach l.from l.to l.bound l.w)
-
-abbrev pub decreases-loop-w : goal.decreases-loop-w
-decreases-loop-w l = 4 - l.w
+invariant-loop-w l = l.reach ≡ passed l.initial.reach l.from l.to l.bound l.w

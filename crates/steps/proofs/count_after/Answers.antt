@@ -17,36 +17,30 @@ stay : (c : After-kept_count-kept) → let x = c.args in c.kept_count-kept.resul
 stay c = c.kept_count-kept.ensures ∙ ap (λ (b : Bool). c.args.counts.threads - cond b 1 2) c.is_resource.ensures
 
 pub kept_count-kept-requires : goal.kept_count-kept-requires
-kept_count-kept-requires c = L.two-threads c.requires.prepared.1
+kept_count-kept-requires c = L.two-threads c.requires.meets.0
 
 pub count_threads-mid-requires : goal.count_threads-mid-requires
-count_threads-mid-requires c = (
-  c.requires.prepared.0,
-  record {
-    node = left_below c.requires.prepared.0.read c.requires.prepared.1.reads (L.receiver-agent c.requires.prepared.1);
-    marker = c.requires.prepared.2;
-    names = L.length-near c.requires.prepared.1 c.requires.bound c.args.choices.now c.args.marker;
-    few = omega (arith, stay (goal.at.count_threads-mid-requires c).After-kept_count-kept, c.requires.prepared.1.met.few);
-  },
-)
+count_threads-mid-requires c = record {
+  node = left_below c.args.ground.now.prepared.read c.requires.meets.0.reads (L.receiver-agent c.requires.meets.0);
+  marker = c.requires.meets.1;
+  names = L.length-near c.requires.meets.0 c.requires.bound c.args.ground.now.choices.now c.args.marker;
+  few = omega (arith, stay (goal.at.count_threads-mid-requires c).After-kept_count-kept, c.requires.meets.0.met.few);
+}
 
 pub count_threads-requires : goal.count_threads-requires
-count_threads-requires c = (
-  c.requires.prepared.0,
-  record {
-    node = left_below c.requires.prepared.0.read c.requires.prepared.1.other (L.sender-agent c.requires.prepared.1);
-    marker = omega (arith, c.requires.prepared.1.met.other, c.requires.prepared.1.met.listed);
-    names = L.length-far c.requires.prepared.1 c.requires.bound c.args.choices.now c.args.marker;
-    few = omega (arith, c.count_threads-mid.ensures.1);
-  },
-)
+count_threads-requires c = record {
+  node = left_below c.args.ground.now.prepared.read c.requires.meets.0.other (L.sender-agent c.requires.meets.0);
+  marker = omega (arith, c.requires.meets.0.met.other, c.requires.meets.0.met.listed);
+  names = L.length-far c.requires.meets.0 c.requires.bound c.args.ground.now.choices.now c.args.marker;
+  few = omega (arith, c.count_threads-mid.ensures.1);
+}
 
 pub returns : goal.returns
 returns c =
     let x = c.args in
-    let near = unfolded x.file.now x.t x.choices.now x.m.p.left x.marker x.near.now in
+    let near = unfolded x.ground.now.array.bytes.now x.ground.now.array.trailer x.ground.now.choices.now x.m.p.left x.marker x.near.now in
     let mid = c.count_threads-mid.ensures.1 ∙ ap (λ (k : ℕ). min 257 (k + length near)) (stay (goal.at.returns c).After-kept_count-kept) in (
       c.count_threads-mid.ensures.0,
       c.count_threads.ensures.0,
-      L.count-is c.requires.prepared.1 c.requires.bound x.choices.now x.marker _ _ mid c.count_threads.ensures.1,
+      L.count-is c.requires.meets.0 c.requires.bound x.ground.now.choices.now x.marker _ _ mid c.count_threads.ensures.1,
     )

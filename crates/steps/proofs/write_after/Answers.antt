@@ -18,36 +18,30 @@ stay : (c : After-kept_count-kept) → let x = c.args in c.kept_count-kept.resul
 stay c = c.kept_count-kept.ensures ∙ ap (λ (b : Bool). c.args.counts.threads - cond b 1 2) c.is_resource-resource.ensures
 
 pub kept_count-kept-requires : goal.kept_count-kept-requires
-kept_count-kept-requires c = L.two-threads c.requires.prepared.1
+kept_count-kept-requires c = L.two-threads c.requires.meets.0
 
 pub unfold_node-mid-requires : goal.unfold_node-mid-requires
-unfold_node-mid-requires c = (
-  c.requires.prepared.0,
-  record {
-    node = left_below c.requires.prepared.0.read c.requires.prepared.1.reads (L.receiver-agent c.requires.prepared.1);
-    marker = c.requires.prepared.2;
-    names = L.length-near c.requires.prepared.1 c.requires.bound c.args.choices.now c.args.marker;
-    few = omega (arith, stay (goal.at.unfold_node-mid-requires c).After-kept_count-kept, c.requires.prepared.1.met.few);
-  },
-)
+unfold_node-mid-requires c = record {
+  node = left_below c.args.ground.now.prepared.read c.requires.meets.0.reads (L.receiver-agent c.requires.meets.0);
+  marker = c.requires.meets.1;
+  names = L.length-near c.requires.meets.0 c.requires.bound c.args.ground.now.choices.now c.args.marker;
+  few = omega (arith, stay (goal.at.unfold_node-mid-requires c).After-kept_count-kept, c.requires.meets.0.met.few);
+}
 
 pub unfold_node-requires : goal.unfold_node-requires
-unfold_node-requires c = (
-  c.requires.prepared.0,
-  record {
-    node = left_below c.requires.prepared.0.read c.requires.prepared.1.other (L.sender-agent c.requires.prepared.1);
-    marker = omega (arith, c.requires.prepared.1.met.other, c.requires.prepared.1.met.listed);
-    names = L.length-far c.requires.prepared.1 c.requires.bound c.args.choices.now c.args.marker;
-    few = omega (arith, c.unfold_node-mid.ensures.1.counted);
-  },
-)
+unfold_node-requires c = record {
+  node = left_below c.args.ground.now.prepared.read c.requires.meets.0.other (L.sender-agent c.requires.meets.0);
+  marker = omega (arith, c.requires.meets.0.met.other, c.requires.meets.0.met.listed);
+  names = L.length-far c.requires.meets.0 c.requires.bound c.args.ground.now.choices.now c.args.marker;
+  few = omega (arith, c.unfold_node-mid.ensures.1.counted);
+}
 
 pub returns : goal.returns
 returns c =
     let x = c.args in
     let l = x.threads.now in
     let stays = c.keep_threads.ensures
-    ∙ ap (λ (b : Bool). put 0 (words_of (keep (remains b x.m.receiver x.m.sender) (threads_in x.t.names x.counts.threads l))) l)
+    ∙ ap (λ (b : Bool). put 0 (words_of (keep (remains b x.m.receiver x.m.sender) (threads_in x.ground.now.array.trailer.names x.counts.threads l))) l)
     c.is_resource-resource.ensures in
-    L.words_are c.requires.prepared.1 c.requires.bound x.choices.now x.marker _ _ _ _ _ _ (stay (goal.at.returns c).After-kept_count-kept) stays c.keep_threads.auto.threads
+    L.words_are c.requires.meets.0 c.requires.bound x.ground.now.choices.now x.marker _ _ _ _ _ _ (stay (goal.at.returns c).After-kept_count-kept) stays c.keep_threads.auto.threads
     c.unfold_node-mid.ensures.1 c.unfold_node-mid.auto.threads c.unfold_node.ensures.1 c.requires.marker_len_bound

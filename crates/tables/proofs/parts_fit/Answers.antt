@@ -1,5 +1,4 @@
 -- The tests in the definition's order; the product of the balances and their size is small.
-use mathlib.Core.Path.{◌∙◌}
 use Rattle.layout.specs.Table.{parts_fit}
 use Rattle.layout.proofs.Laws.{balances-small}
 use native.Mathlib.Omega.{arith}
@@ -15,9 +14,9 @@ unfolding parts_fit
 returns c =
     rw (
       c.u32_at.ensures,
-      c.word_index.ensures.0 ∙ c.u32_at-2.ensures,
+      c.u32_at-2.ensures,
       c.balance_at.ensures,
-      c.word_index-2.ensures.0 ∙ c.u32_at-3.ensures,
+      c.u32_at-3.ensures,
       c.claim_at.ensures,
       c.claim_at-2.ensures,
     )

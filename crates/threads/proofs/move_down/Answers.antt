@@ -1,25 +1,21 @@
-use Prim.Native.Nat.{◌-◌}
+-- `threads::move_down` meets its contract: a thread that moves, and one that is in place.
 use native.Mathlib.Omega.{arith}
-use mathlib.Core.Path.{◌≡◌, refl, sym, ◌∙◌}
-use lib.ListN.{length-set}
-use Rattle.laws.proofs.Put.{put-nil}
+use mathlib.Core.Path.{◌≡◌, refl, sym, ap, ◌∙◌}
+use Prim.Native.Nat.{ℕ}
+use lib.ListN.{take, drop}
+use Rattle.laws.specs.Lists.{put}
+use Rattle.laws.proofs.Put.{put_same}
 use Rattle.threads.proofs.Moves.{moved}
 use Rattle.threads.proofs.move_down.Goals as goal
 
-pub loop-j-init : goal.loop-j-init
-loop-j-init c = (omega arith, sym (put-nil _ _), refl)
-
-pub loop-j-preserved : goal.loop-j-preserved
-loop-j-preserved c =
+pub returns-then-to-from : goal.returns-then-to-from
+returns-then-to-from c =
     let x = c.args in
-    let l = c.loop-j in (
-      omega arith,
-      rw l.invariant.1 (moved x.threads.now x.from x.to l.j c.requires.0 (omega arith)),
-      simp length-set l.invariant.2,
-    )
+    c.copy_within.ensures.after ∙ moved x.threads.now x.from x.to x.width _ refl c.requires.1
 
-pub returns : goal.returns
-returns c =
+pub returns-else-to-from : goal.returns-else-to-from
+returns-else-to-from c =
     let x = c.args in
-    let done : c.loop-j.j ≡ x.count = omega arith in
-    c.loop-j.invariant.1 ∙ rw done
+    let l = x.threads.now in
+    let e : x.to ≡ x.from = omega arith in
+    sym (ap (λ (k : ℕ). put k (take x.width (drop x.from l)) l) e ∙ put_same x.from x.width l c.requires.1)

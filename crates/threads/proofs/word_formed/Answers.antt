@@ -1,12 +1,11 @@
 -- `threads::word_formed` meets its contract: a name that isn't free, a word 0, a new that no row holds, and the two tests.
-use Prim.Native.Nat.{ℕ, ◌/◌, ◌%◌}
 use native.Mathlib.Omega.{arith}
-use mathlib.Core.Path.{◌≡◌, ap, ap₂, ◌∙◌}
+use mathlib.Core.Path.{ap}
 use mathlib.Core.Bool.{Bool, ◌&&◌}
 use lib.Dec.{leb}
+use borrow.Author.Rules.{rules}
 use borrow.Author.Tests.{eq-eqb, ne_eqb}
-use Rattle.marks.specs.Marks.{marked}
-use Rattle.model.specs.Memory.{new_in}
+use Rattle.model.specs.Memory.{new_in, marker_in}
 use Rattle.threads.specs.Threads.{word_ok}
 use Rattle.marks.proofs.Laws.{marked-past}
 use Rattle.threads.proofs.word_formed.Goals as goal
@@ -23,19 +22,10 @@ pub returns-then-new-ge256 : goal.returns-then-new-ge256
 unfolding word_ok
 returns-then-new-ge256 c =
     let x = c.args in
-    let e = c.word_index-opening.ensures.0 in
-    rw (
-      c.if-not-free.false,
-      ne_eqb x.x 0 c.if-x-eq0.false,
-      marked-past x.news.now (new_in x.x) c.requires (omega arith),
-    )
+    rw (c.if-not-free.false, ne_eqb x.x 0 c.if-x-eq0.false, marked-past x.news.now (new_in x.x) (search rules) (omega arith))
 
 pub returns : goal.returns
 unfolding word_ok
 returns c =
     let x = c.args in
-    let e = c.word_index-opening.ensures.0 in
-    let o : c.is_marked-opens.result ≡ marked x.news.now 0 (new_in x.x) =
-    c.is_marked-opens.ensures ∙ ap (λ (n : ℕ). marked x.news.now 0 (n / 65536)) e in
-    rw (c.if-not-free.false, ne_eqb x.x 0 c.if-x-eq0.false)
-    (ap₂ (λ (b : Bool) (n : ℕ). b && leb (n % 65536) x.listed) o e)
+    rw (c.if-not-free.false, ne_eqb x.x 0 c.if-x-eq0.false) (ap (λ (b : Bool). b && leb (marker_in x.x) x.listed) c.is_marked-opens.ensures)

@@ -1,8 +1,7 @@
--- The loop's invariant: the words of the first v names stand from `at` on, and every other word is as it was.
-use Prim.Native.Nat.{◌-◌, ◌≤◌}
+-- The loop's invariant: the words of the first v names stand from `at` on; every other word is as it was.
 use mathlib.Core.Path.{◌≡◌}
 use mathlib.Core.List.{[]}
-use lib.ListN.{length, take}
+use lib.ListN.{take}
 use Rattle.laws.specs.Lists.{put}
 use Rattle.marks.specs.Marks.{marked}
 use Rattle.model.specs.Calculus.{cut_from}
@@ -11,7 +10,4 @@ use Rattle.unfolds.proofs.write_names.Given as goal
 
 abbrev pub invariant-loop-v : goal.invariant-loop-v
 invariant-loop-v l =
-    (l.v ≤ length l.env) × (l.threads ≡ put l.at (cut_from (words []) (marked l.frees l.i) 0 (take l.v l.env)) l.initial.threads) × (length l.threads ≡ length l.initial.threads)
-
-abbrev pub decreases-loop-v : goal.decreases-loop-v
-decreases-loop-v l = length l.env - l.v
+    l.threads ≡ put l.at (cut_from (words []) (marked l.frees l.i) 0 (take l.v l.env)) l.initial.threads

@@ -1,5 +1,4 @@
--- The loop's flag says of the nodes passed that each of them is marked or has no weight.
-use Prim.Native.Nat.{◌≤◌, ◌-◌}
+-- So far the answer is that of the nodes below i.
 use mathlib.Core.Path.{◌≡◌}
 use mathlib.Core.Bool.{false, ◌||◌}
 use lib.Dec.{eqb}
@@ -9,7 +8,4 @@ use Rattle.layout.specs.Table.{weight_at}
 use Rattle.weights.proofs.weights_fit.Given as goal
 
 abbrev pub invariant-loop-i : goal.invariant-loop-i
-invariant-loop-i l = (l.i ≤ l.nodes) × (l.fits ≡ every l.i (λ j. get_or l.agents j false || eqb (weight_at l.table l.at j) 0))
-
-abbrev pub decreases-loop-i : goal.decreases-loop-i
-decreases-loop-i l = l.nodes - l.i
+invariant-loop-i l = l.fits ≡ every l.i (λ j. get_or l.agents j false || eqb (weight_at l.table l.at j) 0)

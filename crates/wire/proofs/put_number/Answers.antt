@@ -1,6 +1,9 @@
--- Two bytes written one after the other are written at once.
-use Rattle.laws.proofs.Put.{put_two}
+-- The two bytes stand where they were put.
+use Rattle.std.proofs.Common.{◌+◌, arith}
+use Rattle.laws.proofs.Put.{put-part}
 use Rattle.wire.proofs.put_number.Goals as goal
 
 pub returns : goal.returns
-returns c = let x = c.args in put_two x.s.now x.at _ _ c.requires
+returns c =
+    let x = c.args in
+    rw (c.copy_from_slice.ensures.after, c.to_le_bytes.ensures) (put-part x.at (x.at + 2) _ x.s.now (omega arith) (omega arith))

@@ -1,8 +1,6 @@
--- Two bytes, each below 256, make a number that fits.
-use Rattle.wire.specs.Numbers.{u16_at}
-use Rattle.std.proofs.Common.{arith}
+-- The two bytes are those that the definition names.
+use Rattle.wire.proofs.Laws.{number_2}
 use Rattle.wire.proofs.u16_at.Goals as goal
 
 pub returns : goal.returns
-unfolding u16_at
-returns c = omega arith
+returns c = cc (number_2 c.args.s.now c.args.at)

@@ -1,8 +1,6 @@
--- Four bytes, each below 256, make a number that fits.
-use Rattle.wire.specs.Numbers.{u32_at}
-use Rattle.std.proofs.Common.{arith}
+-- The four bytes are those that the definition names.
+use Rattle.wire.proofs.Laws.{number_4}
 use Rattle.wire.proofs.u32_at.Goals as goal
 
 pub returns : goal.returns
-unfolding u32_at
-returns c = omega arith
+returns c = cc (number_4 c.args.s.now c.args.at)

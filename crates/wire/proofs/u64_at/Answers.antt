@@ -1,8 +1,6 @@
--- Two 32-bit numbers make one that fits.
-use Rattle.wire.specs.Numbers.{u64_at}
-use Rattle.std.proofs.Common.{arith}
+-- The eight bytes are those that the definition names.
+use Rattle.wire.proofs.Laws.{number_8}
 use Rattle.wire.proofs.u64_at.Goals as goal
 
 pub returns : goal.returns
-unfolding u64_at
-returns c = omega arith
+returns c = cc (number_8 c.args.s.now c.args.at)

@@ -1,0 +1,12 @@
+-- The closure is the test of one record.
+use Rattle.std.proofs.Common.{◌∙◌, rules}
+use Rattle.records.specs.Record.{record_of}
+use Rattle.fields.specs.Fields.{names_fit}
+use Rattle.fields.proofs.Laws.{refusal10-by}
+use Rattle.fields.proofs.bad_name.Goals as goal
+
+pub returns : goal.returns
+returns c =
+    let a = c.args.array.now in
+    c.first_failing.ensures (λ i. names_fit a.trailer.names (record_of a.bytes.now a.trailer i)) (λ i h before b told. search rules)
+    ∙ refusal10-by a.bytes.now a.trailer

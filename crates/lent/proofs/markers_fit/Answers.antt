@@ -1,8 +1,0 @@
--- Both limits hold where the lesser does.
-use Prim.Native.Nat.{◌/◌}
-use lib.ListN.{length}
-use Rattle.lent.proofs.Laws.{leb-min}
-use Rattle.lent.proofs.markers_fit.Goals as goal
-
-pub returns : goal.returns
-returns c = let x = c.args in leb-min x.count 4096 (length x.markers.now / 4)

@@ -1,6 +1,0 @@
--- The loop ends with the list. Nothing has to hold from turn to turn.
-use Rattle.std.proofs.Common.{length, ◌-◌}
-use Rattle.seals.proofs.print_bytes.Given as goal
-
-abbrev pub decreases-loop-i : goal.decreases-loop-i
-decreases-loop-i g l = length l.bytes - l.i
