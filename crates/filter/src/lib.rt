@@ -52,7 +52,8 @@ fn needs_met(w: &Weighing, sets: &Sets, g: usize, stays: bool, i: usize, l: usiz
     met
 }
 
-// Sets of all senders, which receivers are asked of; where it is deep, the senders of a set that does not pass are looked at one by one.
+// Sets of all senders, which receivers are asked of; where it is deep, the senders of a set that does not pass are looked at one by one. One type for both,
+// as all but that branch is the same.
 // That the sets are those of the senders stays a clause: of which sets they are there may be several proofs, and a ghost field has one.
 #[derive(Clone, Copy)]
 struct Sieve<'a> {
@@ -170,7 +171,7 @@ impl Sieve<'_> {
         self.passes(p)
     }
 
-    // The first node from `from` on that does not pass.
+    // The first node from `from` on that does not pass, or the number of nodes: the search over pairs starts there either way.
     fn sift(&self, from: usize) -> usize
         requires { Sieves self.now × (from ≤ self.now.w.now.array.trailer.nodes)
             × Screened (rule_in self.now) (array_weighed self.now.w.now) (table_beside self.now.w.now self.now.rows.now) from }
@@ -187,7 +188,8 @@ impl Sieve<'_> {
     }
 }
 
-// The first node from `from` on that does not pass when sets of senders are asked, by arity or, where it goes deep, by channel and one by one.
+// The first node from `from` on that does not pass when sets of senders are asked, by arity or, where it goes deep, by channel and one by one; the number of
+// nodes where each passes.
 fn ask(from: usize, rule: PairRule, w: &Weighing, rows: &[u64; 1024], deep: bool) -> usize
     requires { (from ≤ w.now.array.trailer.nodes)
         × Screened (rule_number rule) (array_weighed w.now) (table_beside w.now rows.now) from }

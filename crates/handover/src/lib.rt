@@ -40,7 +40,8 @@ use records::{ArrayFile, Reason, Refusal, Trailer};
 use rules::Broken;
 use std::fmt;
 
-// Held with M, N, K, Q and the format, or the first broken rule with its place figures.
+// Held with M, N, K, Q and the format, or the first broken rule with its place figures. A case for each of 01's answers: a broken rule is what was asked for
+// and no refusal, so that a Result would call it an error.
 #[derive(Clone, Copy)]
 pub enum Verdict {
     Held(Sizes),
@@ -71,7 +72,7 @@ impl fmt::Display for Verdict {
     }
 }
 
-// One step of a walk as it is told, or its ending with the steps made.
+// One step of a walk as it is told, or its ending with the steps made. An ending is told like a step and is no error, so this is no Result.
 #[derive(Clone, Copy)]
 pub enum Told {
     Made(Turn),

@@ -62,7 +62,7 @@ pub fn read_sizes(t: Trailer, table: &[u8]) -> Sizes
 
 impl Sizes {
     // How many bytes a flow row takes.
-    fn row_size(self) -> usize
+    pub fn row_size(self) -> usize
         ensures { result ≡ row_size self.form }
     {
         32

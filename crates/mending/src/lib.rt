@@ -39,7 +39,7 @@ struct Progress {
 }
 
 // The pairs that a sweep looks at: a receiver on a name that is marked in `reach` (or, where `on` is false, is not), and a sender that uses a name that is
-// marked in `chosen`.
+// marked in `chosen`. A flag, since the same passes look at both halves of the receivers.
 #[derive(Drop)]
 struct Scope {
     chosen: [u64; 4],

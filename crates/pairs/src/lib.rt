@@ -21,6 +21,19 @@ pub enum PairRule {
     Fourth,
 }
 
+// Every number names one of them, as in the definitions, which ask for 3 alone.
+impl From<u8> for PairRule {
+    ghost from_gives = { λ number rule. eqb (rule_number rule) 3 ≡ eqb number 3 };
+
+    fn from(number: u8) -> PairRule {
+        if number == 3 {
+            PairRule::Third
+        } else {
+            PairRule::Fourth
+        }
+    }
+}
+
 // An array file that was read, weighed in so many balances: the loads of all its nodes, and the bounds.
 #[derive(Clone, Copy)]
 pub struct Weighing<'a> {
@@ -63,7 +76,7 @@ pub fn meet(rows: &[u64], p: Side, q: Side) -> bool
         && marks::shares(rows, p.node.name, rows, q.node.name)
 }
 
-// How many figures the rule looks at: none where the node is no receiver.
+// How many figures the rule looks at: 0 where the node is no receiver, since its pairs have none.
 pub fn figures(rule: PairRule, balances: usize, r: Record) -> usize
     ensures { result ≡ figures_of (rule_number rule) balances r }
 {

@@ -157,7 +157,7 @@ impl Sets {
         self.join_figures(rule, g, w, rows, q);
     }
 
-    // Node q comes before the senders of set g so far.
+    // Node q comes before the senders of set g so far. A link is a node's number and 1, and 0 is the end: 16 bits a node, in a list of fixed length.
     fn link(&mut self, g: usize, q: usize)
         requires { (g < 12) × (q < 1024) }
         ensures { self.new ≡ record self.old { links = link self.old.links g q } }
