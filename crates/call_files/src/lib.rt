@@ -55,11 +55,11 @@ fn take_words(s: &[u8]) -> Option<(u32, u32, &[u8])>
 }
 
 // A position or a count: the largest word stands for the largest that a call takes.
-fn position(n: u32) -> usize {
-    if n == u32::MAX {
+pub fn position(n: usize) -> usize {
+    if n == u32::MAX as usize {
         usize::MAX
     } else {
-        n as usize
+        n
     }
 }
 
@@ -68,7 +68,7 @@ pub fn take_positions(s: &[u8]) -> Option<(usize, usize, &[u8])>
     ensures { IfSome result (λ p. length p.2.now < length s.now) }
 {
     let (x, y, rest) = take_words(s)?;
-    Some((position(x), position(y), rest))
+    Some((position(x as usize), position(y as usize), rest))
 }
 
 // The next part, of at most so many things of `size` bytes each, padded to whole words. None where the script is cut there, or asks for more.

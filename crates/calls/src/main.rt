@@ -60,7 +60,7 @@ impl Script<'_, '_, '_> {
 
     // A refusal, after which the next call is told the counts of before.
     fn refused(&self, rt: &impl Print, refusal: Refusal) -> Counts {
-        let _ = print!(rt; "{refusal}");
+        lines::print_refusal(rt, refusal);
         self.counts
     }
 

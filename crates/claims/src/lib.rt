@@ -32,21 +32,29 @@ pub fn bad_claim(array: &ArrayFile, table: &TableFile) -> Result<(), Refusal>
     })
 }
 
-// The first claim of claim c's set.
+// The first claim of claim c's set, in a table beside its sizes.
+pub fn first_of_set(table: &[u8], z: Sizes, c: usize) -> usize
+    requires { ClaimsLie table.now z × (c < z.claims) }
+    ensures { FirstOf (table_of table.now z) c result }
+{
+    let set = layout::read_claim(table, z, c).set;
+    if set == 0 {
+        return c;
+    }
+    // No range: the search ends at c itself, and a test of where it is would make 256 sets half as slow again.
+    let mut d: usize = 0;
+    while layout::read_claim(table, z, d).set != set {
+        d += 1;
+    }
+    d
+}
+
+// The same of a table file.
 pub fn first_claim(table: &TableFile, c: usize) -> usize
     requires { c < table.now.sizes.claims }
     ensures { FirstOf (table_in table.now) c result }
 {
-    let set = table.claim(c).set;
-    if set == 0 {
-        return c;
-    }
-    for d in 0..c {
-        if table.claim(d).set == set {
-            return d;
-        }
-    }
-    c
+    first_of_set(table.bytes, table.sizes, c)
 }
 
 // Two claims agree in most and in balance.
@@ -103,16 +111,4 @@ pub fn bad_order(table: &TableFile) -> Result<(), Refusal>
         Reason::Order,
         |next| in_order(table, next),
     )
-}
-
-// The first claim of claim c's set, in a table that is passed beside its sizes, as docs name it.
-pub fn first_of_set(table: &[u8], z: Sizes, c: usize) -> usize
-    requires { ClaimsLie table.now z × (c < z.claims) }
-    ensures { FirstOf (table_of table.now z) c result }
-{
-    let table = TableFile {
-        bytes: table,
-        sizes: z,
-    };
-    first_claim(&table, c)
 }

@@ -303,7 +303,7 @@ pub fn next_turn(
 {
     let mut frees = [0u64; 4096];
     if !lent::lists_formed(&mut frees, array, threads, markers, counts) {
-        return Err(Reason::Lists);
+        return Err(Reason::Lists); // told
     }
     let ground = Ground {
         array: *array,

@@ -107,7 +107,7 @@ impl Sieve<'_> {
                 node: self.w.array.node_at(j),
             };
             if pairs::breaks(
-                self.rule,
+                self.rule.number(),
                 self.w.balances,
                 rows,
                 self.w.loads,
@@ -165,7 +165,7 @@ impl Sieve<'_> {
             number: i,
             node: self.w.array.node_at(i),
         };
-        if pairs::figures(self.rule, self.w.balances, p.node) == 0 {
+        if pairs::figures(self.rule.number(), self.w.balances, p.node) == 0 {
             return true;
         }
         self.passes(p)
@@ -197,7 +197,15 @@ fn ask(from: usize, rule: PairRule, w: &Weighing, rows: &[u64; 1024], deep: bool
         × Screened (rule_number rule) (array_weighed w.now) (table_beside w.now rows.now) result }
 {
     let mut sets = NO_SENDERS;
-    sets.gather(rule, deep, &EVERY_NAME, w, rows);
+    sets.gather(
+        rule.number(),
+        deep,
+        &EVERY_NAME,
+        &w.array,
+        w.balances,
+        rows,
+        w.loads,
+    );
     let sieve = Sieve {
         rule,
         w,
@@ -208,12 +216,14 @@ fn ask(from: usize, rule: PairRule, w: &Weighing, rows: &[u64; 1024], deep: bool
     sieve.sift(from)
 }
 
-// The first node that may be the receiver of a live pair which breaks the rule: nothing is found below it. Without a balance rule 4 has no figures.
+// The first node that may be the receiver of a live pair which breaks the rule of this number: nothing is found below it. Without a balance rule 4 has no
+// figures.
 // Where none is left it is the number of nodes, from which the search over pairs may start too.
-pub fn first_suspect(rule: PairRule, w: &Weighing, rows: &[u64; 1024]) -> usize
+pub fn first_suspect(number: u8, w: &Weighing, rows: &[u64; 1024]) -> usize
     ensures { (result ≤ w.now.array.trailer.nodes)
-        × Screened (rule_number rule) (array_weighed w.now) (table_beside w.now rows.now) result }
+        × Screened number (array_weighed w.now) (table_beside w.now rows.now) result }
 {
+    let rule = PairRule::from(number);
     let unweighed = w.balances == 0;
     if rule == PairRule::Fourth && unweighed {
         return w.array.trailer.nodes;

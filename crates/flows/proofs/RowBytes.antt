@@ -12,7 +12,7 @@ use lib.ListN.{length, get_or, set, take, drop, length-append, length-drop, take
 use lib.Pow.{shr-shr}
 use mir.Syntax.{w64}
 use Rattle.std.specs.Int.{to_le_bytes}
-use lib.Seq.{get_or_at, take_at, drop-append-le, length-take-le, get_or-append-add, get_or-drop, get_or-take}
+use lib.Seq.{get_or_at, take_at, drop-append-le, length-take-le, take-suc, get_or-append-add, get_or-drop, get_or-take}
 use Rattle.laws.specs.Search.{sum}
 use Rattle.laws.specs.Lists.{All, one, put}
 use Rattle.laws.specs.Bits.{bit}
@@ -133,6 +133,12 @@ put_next : (xs l : List ℕ) (i x : ℕ) → length xs ≡ i → i < length l �
 put_next xs l i x e h =
     let at : i ≡ 0 + length xs = omega arith in
     ap (λ (n : ℕ). set (put 0 xs l) n x) at ∙ set-put 0 xs l (omega arith) x (omega arith)
+
+-- a turn of `copy_bytes`
+pub byte-copied : (s l : List ℕ) (i : ℕ) → i < length s → length s ≤ length l → set (put 0 (take i s) l) i (get_or s i 0) ≡ put 0 (take (i + 1) s) l
+byte-copied s l i h k =
+    put_next (take i s) l i (get_or s i 0) (length-take-le i s (omega arith)) (omega arith)
+    ∙ ap (λ (t : List ℕ). put 0 t l) (sym (take-suc s i 0 h) ∙ ap (λ (n : ℕ). take n s) (sym (add-one i)))
 
 -- byte k of a word
 word-byte : (n k : ℕ) → k < 8 → get_or (to_le_bytes w64 n) k 0 ≡ n / 2 ^ (8 * k) % 256

@@ -28,7 +28,7 @@ use Rattle.tables.specs.Read.{table_refusal, files_refusal}
 use Rattle.tables.proofs.Laws as L
 use Rattle.handover.specs.Front.{array_in}
 use Rattle.handover.specs.Engine.{start_refusal, lent_refusal}
-use Rattle.handover.specs.Refusals.{ArrayNumber, TableNumber, StartNumber, StepNumber, WalkNumber}
+use Rattle.handover.specs.Refusals.{ArrayNumber, TableNumber, MendNumber, StartNumber, StepNumber, WalkNumber}
 
 pub reads : (f : List ℕ) → array_refusal f ≡ clear → read_array f ≡ Ok (trailer_of f)
 unfolding read_array
@@ -185,3 +185,27 @@ start-number a ch m n e = fate (fitted-fate a m (start (words []) a ch) [])
     fate (crowded q k) = inr (inr (sym (stops-inj (sym q ∙ e))))
     fate (unlisted q k) = absurd (omega arith)
     fate (stored q k l) = leave-stop _ n (sym q ∙ e)
+
+-- ---- every number is at most 39
+
+pub table-few : (n : ℕ) → TableNumber n → n ≤ 39
+table-few n (inl h) = omega (arith, h.1)
+table-few n (inr h) = omega (arith, h.1)
+
+pub mend-few : (n : ℕ) → MendNumber n → n ≤ 39
+mend-few n (inl h) = table-few n h
+mend-few n (inr h) = omega arith
+
+pub start-few : (n : ℕ) → StartNumber n → n ≤ 39
+start-few n (inl h) = omega (arith, h.1)
+start-few n (inr (inl h)) = omega arith
+start-few n (inr (inr h)) = omega arith
+
+pub step-few : (n : ℕ) → StepNumber n → n ≤ 39
+step-few n (inl h) = omega (arith, h.1)
+step-few n (inr h) = omega (arith, h.1)
+
+pub walk-few : (n : ℕ) → WalkNumber n → n ≤ 39
+walk-few n (inl h) = omega (arith, h.1)
+walk-few n (inr (inl h)) = omega arith
+walk-few n (inr (inr h)) = omega arith

@@ -30,7 +30,7 @@ fn pack_rule(number: u64, first: usize, second: usize, third: usize) -> u64
 
 // A refusal's number with its place.
 fn pack_refusal(r: Refusal) -> u64
-    requires { r.place < 2 ^ 16 }
+    requires { (number_of r.reason ≤ 39) × (r.place < 2 ^ 16) }
     ensures { result ≡ denied (number_of r.reason) r.place }
 {
     100 + u64::from(r.reason.number()) + 256 * r.place as u64

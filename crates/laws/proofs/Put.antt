@@ -105,7 +105,7 @@ module _ {A : Type 0} where
         set-as-put (put at xs l) (at + length xs) a k' ∙ put-put (a ∷ [])
 
   -- two and four words written one after the other
-  put_two : (l : List A) (at : ℕ) (a b : A) → at + 1 < length l → set (set l at a) (at + 1) b ≡ put at (a ∷ b ∷ []) l
+  pub put_two : (l : List A) (at : ℕ) (a b : A) → at + 1 < length l → set (set l at a) (at + 1) b ≡ put at (a ∷ b ∷ []) l
   put_two l at a b h = ap (λ (m : List A). set m (at + 1) b) (set-as-put l at a (omega arith)) ∙ set-put at (a ∷ []) l (omega arith) b (omega arith)
 
   pub put_four : (l : List A) (at : ℕ) (a b c d : A) → at + 3 < length l

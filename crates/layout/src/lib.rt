@@ -100,30 +100,26 @@ impl Sizes {
     }
 }
 
+// Claim c of a table beside its sizes.
+pub fn read_claim(table: &[u8], z: Sizes, c: usize) -> Claim
+    requires { ClaimsLie table.now z × (c < z.claims) }
+    ensures { result ≡ claim_of table.now (claim_at z c) }
+{
+    let at = z.claim_at(c);
+    Claim {
+        agent: wire::u16_at(table, at),
+        most: wire::u16_at(table, at + 2),
+        balance: wire::u16_at(table, at + 4),
+        set: wire::u16_at(table, at + 6),
+    }
+}
+
 impl TableFile<'_> {
     // Claim c.
     pub fn claim(&self, c: usize) -> Claim
         requires { c < self.now.sizes.claims }
         ensures { result ≡ claim_of self.now.bytes.now (claim_at self.now.sizes c) }
     {
-        let at = self.sizes.claim_at(c);
-        Claim {
-            agent: wire::u16_at(self.bytes, at),
-            most: wire::u16_at(self.bytes, at + 2),
-            balance: wire::u16_at(self.bytes, at + 4),
-            set: wire::u16_at(self.bytes, at + 6),
-        }
+        read_claim(self.bytes, self.sizes, c)
     }
-}
-
-// Claim c of a table that is passed beside its sizes, as docs name it.
-pub fn read_claim(table: &[u8], z: Sizes, c: usize) -> Claim
-    requires { ClaimsLie table.now z × (c < z.claims) }
-    ensures { result ≡ claim_of table.now (claim_at z c) }
-{
-    let table = TableFile {
-        bytes: table,
-        sizes: z,
-    };
-    table.claim(c)
 }

@@ -28,6 +28,11 @@ fn print_line(rt: &impl Print, line: &impl Display) {
 }
 
 pub fn print_refusal(rt: &impl Print, refusal: Refusal) {
+    let _ = print!(rt; "{refusal}");
+}
+
+// A refusal's line.
+pub fn print_refused(rt: &impl Print, refusal: Refusal) {
     print_line(rt, &refusal);
 }
 
@@ -92,7 +97,8 @@ pub fn each_argument<F: Fn(&[u8])>(rt: &impl Env, tell: F)
     }
 }
 
-// Reads each pair of files that the arguments name, an array file and a table file, and hands both over behind the second one's name, printed.
+// Reads each pair of files that the arguments name, an array file and a table file, and hands both over behind the second one's name, printed. A file that is
+// not one of a pair is not opened.
 pub fn each_pair<F: Fn(&[u8], &[u8])>(rt: &(impl Env + Files + Print), tell: F)
     requires { F.IsAlwaysCallable tell }
 {
@@ -100,6 +106,9 @@ pub fn each_pair<F: Fn(&[u8], &[u8])>(rt: &(impl Env + Files + Print), tell: F)
     let mut table = [0u8; TABLE_ROOM];
     let mut path = [0u8; 4096];
     for i in (1..usize::MAX).step_by(2) {
+        if argument(rt, i + 1, &mut path).is_none() {
+            return;
+        }
         let Some(name) = argument(rt, i, &mut path) else {
             return;
         };

@@ -71,8 +71,11 @@ fn fill_node(loads: &mut [u32; 24578], array: &ArrayFile, table: &TableFile, i: 
     ensures { FilledFrom loads.new (array_in array.now) (table_in table.now) i }
 {
     let r = array.node_at(i);
-    for k in 0..table.sizes.balances {
-        let weight = wire::u16_at(table.bytes, table.sizes.balance_at(k) + 4 + 2 * i) as u32;
+    // its own, so that they need not be read again after each write
+    let bytes = table.bytes;
+    let sizes = table.sizes;
+    for k in 0..sizes.balances {
+        let weight = wire::u16_at(bytes, sizes.balance_at(k) + 4 + 2 * i) as u32;
         let load = load_of(loads, r, k, weight);
         loads[entry(i, k)] = load;
     }

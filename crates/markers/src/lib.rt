@@ -28,7 +28,7 @@ pub fn entry_at(markers: &[u16], k: usize) -> Entry
     requires { 4 * k + 3 < length markers.now }
     ensures { entry_of result ≡ entry_in (drop (4 * k) markers.now) }
 {
-    let [resource, out, left, right] = *markers[4 * k..].first_chunk::<4>().unwrap();
+    let [resource, out, left, right] = *markers[4 * k..4 * k + 4].first_chunk::<4>().unwrap();
     Entry {
         resource,
         out,
@@ -98,6 +98,10 @@ fn entries_unlike(markers: &[u16], count: usize) -> bool
     requires { 4 * count ≤ length markers.now }
     ensures { result ≡ every count (unlike (entries_in count markers.now)) }
 {
+    if count == 0 {
+        return true;
+    }
+    // not cleared where no entry is looked at
     let mut seen = [0u64; 4096];
     // a loop and no chain: a turn marks what later ones ask
     for k in 0..count {

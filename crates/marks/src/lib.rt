@@ -98,7 +98,7 @@ fn row_at(rows: &[u64], u: usize) -> [u64; 4]
     requires { HasRow rows.now u }
     ensures { Copied rows.now u result }
 {
-    *rows[4 * u..].first_chunk().unwrap()
+    *rows[4 * u..4 * u + 4].first_chunk().unwrap()
 }
 
 // Row u of one list has the marks of row v of the other, beside its own. Row v is read before a word is written, so that a machine joins several words

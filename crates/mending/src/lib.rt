@@ -130,15 +130,17 @@ fn join_members(
         → Sends (beside w.now rows.now) p sent.new (side_of w.now j) }
 {
     let margins = pairs::differences(w.balances, w.loads, w.bounds, p);
+    // its own, so that it need not be read again after each write
+    let weighing = *w;
     // Links lead from node to node, so that no range goes over them.
     let mut next = usize::from(sets.links[senders::last_link(g)]);
     while 0 < next {
         let j = next - 1;
         let q = Side {
             number: j,
-            node: w.array.node_at(j),
+            node: weighing.array.node_at(j),
         };
-        join_pair(sent, rows, w, &margins.rooms, p, q);
+        join_pair(sent, rows, &weighing, &margins.rooms, p, q);
         next = usize::from(sets.links[j]);
     }
 }
@@ -306,7 +308,7 @@ fn receiver_at(w: &Weighing, i: usize) -> Option<Side>
         number: i,
         node: w.array.node_at(i),
     };
-    if pairs::figures(PairRule::Third, w.balances, p.node) == 0 {
+    if pairs::figures(PairRule::Third.number(), w.balances, p.node) == 0 {
         return None;
     }
     Some(p)
@@ -370,12 +372,21 @@ fn sweep_large(
     large: &mut Sets,
 ) -> Option<usize>
     requires { Vacant large.old }
+    ensures node { left_from w.now.array.trailer.nodes result ≤ w.now.array.trailer.nodes }
     ensures grew { GrewBeside w.now so_far.old so_far.new }
     ensures swept { Swept (beside w.now so_far.new.rows) so_far.new.names scope.now.chosen scope.now.reach scope.now.on
         (left_from w.now.array.trailer.nodes result) }
     ensures large { Stale (beside w.now so_far.new.rows) so_far.new.names scope.now.chosen large.new }
 {
-    large.gather(PairRule::Third, false, &scope.chosen, w, &so_far.rows);
+    large.gather(
+        PairRule::Third.number(),
+        false,
+        &scope.chosen,
+        &w.array,
+        w.balances,
+        &so_far.rows,
+        w.loads,
+    );
     for i in 0..w.array.trailer.nodes {
         if !settled(scope, so_far, w, large, i) {
             return Some(i);
@@ -392,7 +403,15 @@ fn sweep_small(from: usize, scope: &Scope, so_far: &mut Progress, w: &Weighing, 
     ensures all_swept { Swept (beside w.now so_far.new.rows) so_far.new.names scope.now.chosen scope.now.reach scope.now.on w.now.array.trailer.nodes }
 {
     let mut small = senders::NO_SENDERS;
-    small.gather(PairRule::Third, true, &scope.chosen, w, &so_far.rows);
+    small.gather(
+        PairRule::Third.number(),
+        true,
+        &scope.chosen,
+        &w.array,
+        w.balances,
+        &so_far.rows,
+        w.loads,
+    );
     for i in from..w.array.trailer.nodes {
         mend_node(scope, so_far, w, large, &small, i);
     }

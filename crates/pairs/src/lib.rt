@@ -34,6 +34,18 @@ impl From<u8> for PairRule {
     }
 }
 
+impl PairRule {
+    // Its number in 01, by which the searches below are asked.
+    pub fn number(self) -> u8
+        ensures { result ≡ rule_number self }
+    {
+        match self {
+            PairRule::Third => 3,
+            PairRule::Fourth => 4,
+        }
+    }
+}
+
 // An array file that was read, weighed in so many balances: the loads of all its nodes, and the bounds.
 #[derive(Clone, Copy)]
 pub struct Weighing<'a> {
@@ -76,14 +88,14 @@ pub fn meet(rows: &[u64], p: Side, q: Side) -> bool
         && marks::shares(rows, p.node.name, rows, q.node.name)
 }
 
-// How many figures the rule looks at: 0 where the node is no receiver, since its pairs have none.
-pub fn figures(rule: PairRule, balances: usize, r: Record) -> usize
-    ensures { result ≡ figures_of (rule_number rule) balances r }
+// How many figures the rule of this number looks at: 0 where the node is no receiver, since its pairs have none.
+pub fn figures(number: u8, balances: usize, r: Record) -> usize
+    ensures { result ≡ figures_of number balances r }
 {
     if !records::receives(r) {
         return 0;
     }
-    match rule {
+    match PairRule::from(number) {
         PairRule::Third => r.arity,
         PairRule::Fourth => balances,
     }
@@ -114,6 +126,7 @@ fn cap(bound: u32) -> u32
 }
 
 // The differences of receiver p. It, and what asks a pair alone, takes lists and no weighing: what they ask is less than a weighing says. Lengths stand as a clause, since the type of a result tells no caller's proof.
+#[inline(always)]
 pub fn differences(balances: usize, loads: &[u32], bounds: &[u32], p: Side) -> Margins
     requires few { (length bounds.now ≡ 24) × (balances ≤ 24) }
     requires half_row { HalfRow loads.now balances p.number × HalfRow loads.now balances p.node.left }
@@ -232,10 +245,10 @@ fn figure_holds(
     }
 }
 
-// The pair is live, and breaks the rule. Balances that would end its life are looked at last. For the filter, which asks this of many pairs; the
+// The pair is live, and breaks the rule of this number. Balances that would end its life are looked at last. For the filter, which asks this of many pairs; the
 // search below asks for the place, of few.
 pub fn breaks(
-    rule: PairRule,
+    number: u8,
     balances: usize,
     rows: &[u64],
     loads: &[u32],
@@ -246,23 +259,25 @@ pub fn breaks(
 ) -> bool
     requires rooms { Rooms balances loads.now rooms.now q.number }
     requires node_value { (is_agent (node_of p.node) ≡ true) × NameRow rows.now p × NameRow rows.now q }
-    requires figures { meets rows.now p q ≡ true → Figures (rule_number rule) balances rows.now loads.now gives.now p q }
+    requires figures { meets rows.now p q ≡ true → Figures number balances rows.now loads.now gives.now p q }
     ensures { result ≡ live_by rows.now loads.now rooms.now balances p q
-        && not (all_hold_by (rule_number rule) balances rows.now loads.now gives.now p q) }
+        && not (all_hold_by number balances rows.now loads.now gives.now p q) }
 {
     meet(rows, p, q)
-        && !all_hold(rule, balances, rows, loads, gives, p, q)
+        && !all_hold(PairRule::from(number), balances, rows, loads, gives, p, q)
         && fits_beside(balances, loads, rooms, q.number)
 }
 
-// Rule 3 or 4: the first live pair that breaks it, lowest receiver, then lowest sender, then the last figure. Nothing is found below receiver `from`.
-pub fn first_pair(rule: PairRule, w: &Weighing, rows: &[u64; 1024], from: usize) -> Option<Place>
-    requires { (from ≤ w.now.array.trailer.nodes) × Screened (rule_number rule) (array_of w.now.array.bytes.now w.now.array.trailer)
+// Rule 3 or 4, by its number: the first live pair that breaks it, lowest receiver, then lowest sender, then the last figure. Nothing is found below receiver
+// `from`.
+pub fn first_pair(number: u8, w: &Weighing, rows: &[u64; 1024], from: usize) -> Option<Place>
+    requires { (from ≤ w.now.array.trailer.nodes) × Screened number (array_of w.now.array.bytes.now w.now.array.trailer)
         (list_table rows.now w.now.loads.now w.now.bounds.now w.now.balances) from }
-    ensures result_value { placed (rule_number rule) result ≡ pairs_of (rule_number rule) (array_of w.now.array.bytes.now w.now.array.trailer)
+    ensures result_value { placed number result ≡ pairs_of number (array_of w.now.array.bytes.now w.now.array.trailer)
         (list_table rows.now w.now.loads.now w.now.bounds.now w.now.balances) }
     ensures small_figure { SmallFigure result }
 {
+    let rule = PairRule::from(number);
     let nodes = w.array.trailer.nodes;
     let mut answer = None;
     'receiver: for i in from..nodes {
@@ -270,7 +285,7 @@ pub fn first_pair(rule: PairRule, w: &Weighing, rows: &[u64; 1024], from: usize)
             number: i,
             node: w.array.node_at(i),
         };
-        let count = figures(rule, w.balances, p.node);
+        let count = figures(number, w.balances, p.node);
         if count == 0 {
             continue 'receiver;
         }

@@ -318,7 +318,7 @@ pub fn sends(r: Record) -> bool
 pub fn receives(r: Record) -> bool
     ensures { result ≡ is_receiver (node_of r) }
 {
-    is_agent(r) & !sends(r)
+    matches!(r.kind, Kind::In | Kind::Resource | Kind::Other(_))
 }
 
 pub fn is_resource(r: Record) -> bool

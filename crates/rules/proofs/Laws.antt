@@ -51,7 +51,7 @@ ends {f} g b r e handed =
     let p = err_from_is_err_and r handed in
     rw (p.1, p.2) (sym (hit-and_then f g (broken_of b) (sym e)))
 
-goes_on : {f : Verdict} (g : Verdict) {y : Verdict} → clear ≡ f → y ≡ g → y ≡ and_then f g
+pub goes_on : {f : Verdict} (g : Verdict) {y : Verdict} → clear ≡ f → y ≡ g → y ≡ and_then f g
 goes_on {f} g e q = q ∙ sym (clear-and_then f g (sym e))
 
 -- ---- rules 3 and 4 are the searches over pairs

@@ -60,8 +60,9 @@ fn second_rule(w: &Weighing) -> Result<(), Broken>
 fn pair_rule(rule: PairRule, w: &Weighing, rows: &[u64; 1024]) -> Result<(), Broken>
     ensures { ruled result ≡ pairs_of (rule_number rule) (array_weighed w.now) (table_beside w.now rows.now) }
 {
-    let from = filter::first_suspect(rule, w, rows);
-    match pairs::first_pair(rule, w, rows, from) {
+    let number = rule.number();
+    let from = filter::first_suspect(number, w, rows);
+    match pairs::first_pair(number, w, rows, from) {
         None => Ok(()),
         Some(p) => Err(match rule {
             PairRule::Third => Broken::Rule3(p.receiver, p.sender, p.figure + 1),

@@ -55,7 +55,7 @@ byte_le s i k h = go k h
     go (suc (suc (suc (suc (suc (suc (suc (suc k)))))))) h = absurd (omega arith)
 
 -- a number without high bytes has zeros there
-high_zero : (s : List ℕ) (i n k : ℕ) → u64_at s i / 2 ^ (8 * n) ≡ 0 → n ≤ k → k < 8 → get_or s (i + k) 0 ≡ 0
+pub high_zero : (s : List ℕ) (i n k : ℕ) → u64_at s i / 2 ^ (8 * n) ≡ 0 → n ≤ k → k < 8 → get_or s (i + k) 0 ≡ 0
 high_zero s i n k e l h = go (get_or s (i + k) 0) refl
   where
     go : (b : ℕ) → get_or s (i + k) 0 ≡ b → get_or s (i + k) 0 ≡ 0

@@ -115,6 +115,7 @@ fn hand_down(reach: &mut [u64], parents: &mut [u8], from: usize, to: usize, boun
 }
 
 // Passes node i of m, an agent whose record is r. False where it does not fit.
+#[inline(always)]
 fn pass_agent(
     reach: &mut [u64],
     parents: &mut [u8],
@@ -143,6 +144,7 @@ fn pass_agent(
 }
 
 // Passes node i of m, a stop, new, par or choice whose record is r. False where it does not fit.
+#[inline(always)]
 fn pass_other(
     reach: &mut [u64],
     parents: &mut [u8],
@@ -172,7 +174,8 @@ fn pass_other(
     hand_down(reach, parents, i, r.right, [0; 4])
 }
 
-// Passes node i of m, whose record is r. False where it does not fit.
+// Passes node i of m, whose record is r. False where it does not fit. Part of both passes below, and not called for each node.
+#[inline(always)]
 fn pass_node(
     reach: &mut [u64],
     parents: &mut [u8],
@@ -203,7 +206,9 @@ fn bound_once(binders: &[u16; 256], n: usize) -> bool
 }
 
 // The pass, over tables for NODES nodes with four words for each: the names that reach each node, how many fields name each node, how often each
-// name is bound. A parent comes before its children, so that a node's row and count are final when it is passed.
+// name is bound. A parent comes before its children, so that a node's row and count are final when it is passed. It has a frame of its own: the tables of
+// refusal 12 then stand in their place, and a small array takes small ones.
+#[inline(never)]
 fn scan<const NODES: usize, const WORDS: usize>(array: &ArrayFile) -> bool
     requires { (array.now.trailer.nodes ≤ NODES) × (NODES ≤ 1024) × (WORDS ≡ 4 * NODES) }
     ensures { result ≡ true → Clear array.now.bytes.now array.now.trailer }

@@ -11,6 +11,7 @@ use borrow.Author.Tests.{eq-eqb, ne_eqb}
 use Rattle.laws.proofs.Search.{decided}
 use Rattle.records.specs.declared.Record.{Record}
 use Rattle.records.specs.Record.{record_of}
+use Rattle.pairs.specs.declared.Side.{Side}
 use Rattle.pairs.specs.Pairs.{Setting, setting}
 use Rattle.senders.specs.Sets.{sends_by, Family, Room, Covers, Collected, Grown, link, Gathered}
 use Rattle.senders.proofs.Laws.{grown-same, collected-none, collected-more}
@@ -74,6 +75,10 @@ module _ (rule : ℕ) (S : Setting) (names : List ℕ) where
             (linked-more S.f S.t names more links i fits here (linked-same S.f S.t names h.sets more links i below h.linked)
             (ap (λ (x : Record). sends_by names x) (sym read) ∙ on) (more-few i));
       }
+
+-- a rule's number is asked only whether it is 3
+pub covers-alike : (r s : ℕ) → eqb r 3 ≡ eqb s 3 → {S : Setting} {F : Family} {g : ℕ} {q : Side} → Covers r S F g q → Covers s S F g q
+covers-alike r s e c = record { arity = c.arity; channel = c.channel; sent = λ k. c.sent (e ∙ k); needs = λ k. c.needs (e ∙ k) }
 
 -- whatever the bounds are
 pub gathered-beside : {rule : ℕ} {S : Setting} {names links : List ℕ} {F : Family} → Gathered rule S names F links → (bounds : List ℕ)

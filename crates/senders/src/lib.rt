@@ -1,20 +1,19 @@
 // Twelve sets of senders that use a marked name, in lists that the caller lends: for each set the arities, the rows of the channels and of what is sent,
 // all together, and the largest need in each balance; and the senders of each set, linked.
 // Promises that each of these senders is in one set, that its set keeps what it asks of a receiver, and that the links pass every sender of a set.
-// Which set a sender is in is free. Depends on pairs (a side, a weighing, what a sender needs), loads, arrays, records, marks, model and laws.
+// Which set a sender is in is free. Depends on pairs (a side, what it needs), loads, arrays, records, marks, model and laws.
 #![tactic(auto)]
 
-ghost use Rattle.std.specs.Prelude.{◌≡◌, ◌⊎◌, ◌↔◌, IsTrue, ℕ, get_or, true, false, ◌+◌, ◌<◌, ◌≤◌, eqb, length, replicate};
+ghost use Rattle.std.specs.Prelude.{◌≡◌, ◌⊎◌, ◌↔◌, IsTrue, ℕ, List, get_or, true, false, ◌+◌, ◌<◌, ◌≤◌, eqb, length, replicate};
 ghost use Rattle.marks.specs.Marks.{marked};
 ghost use Rattle.model.specs.Memory.{is_out};
 ghost use Rattle.records.specs.Record.{node_of};
 ghost use Rattle.arrays.specs.Agents.{Reads};
-ghost use Rattle.pairs.specs.Pairs.{rule_number};
-ghost use Rattle.pairs.specs.Weighing.{beside};
+ghost use Rattle.pairs.specs.Pairs.{rule_number, setting, Given};
 ghost use Rattle.senders.specs.Sets.{sends_by, arity_mark, sent_row, family, Room, Vacant, link, Gathered};
 ghost use Rattle.senders.specs.Sets.{HalfNeeds, NeedsGrow, RowsGrow, Grown, SentKept, NeedsKept, Covers, SentRows, NeedsThere, Askable};
 
-use pairs::{PairRule, Side, Weighing};
+use pairs::{PairRule, Side};
 use records::{ArrayFile, Record};
 
 // A row with every mark.
@@ -91,12 +90,12 @@ fn greater(x: u32, need: u32) -> u32
 }
 
 // Set g keeps what sender q needs.
-fn join_needs(needs: &mut [u32; 288], g: usize, w: &Weighing, q: Side)
-    requires { HalfNeeds needs.old × (g < 12) × NeedsThere w.now.balances w.now.loads.now q }
-    ensures { NeedsGrow needs.old needs.new × NeedsKept w.now.balances w.now.loads.now needs.new g q }
+fn join_needs(needs: &mut [u32; 288], g: usize, balances: usize, loads: &[u32], q: Side)
+    requires { HalfNeeds needs.old × (g < 12) × NeedsThere balances loads.now q }
+    ensures { NeedsGrow needs.old needs.new × NeedsKept balances loads.now needs.new g q }
 {
-    for k in 0..w.balances {
-        let need = pairs::need(w.loads, q.number, q.node.left, k);
+    for k in 0..balances {
+        let need = pairs::need(loads, q.number, q.node.left, k);
         let at = loads::entry(g, k);
         needs[at] = greater(needs[at], need);
     }
@@ -132,29 +131,48 @@ pub const NO_SENDERS: Sets = Sets {
 
 impl Sets {
     // Set g keeps what the rule looks at.
-    fn join_figures(&mut self, rule: PairRule, g: usize, w: &Weighing, rows: &[u64; 1024], q: Side)
+    fn join_figures(
+        &mut self,
+        rule: PairRule,
+        g: usize,
+        array: &ArrayFile,
+        balances: usize,
+        rows: &[u64; 1024],
+        loads: &[u32],
+        q: Side,
+    )
         requires room { Room (family self.old) × (g < 12) }
-        requires asked { Reads w.now.array.bytes.now w.now.array.trailer q.number q.node × Askable w.now.balances rows.now w.now.loads.now q }
+        requires asked { Reads array.now.bytes.now array.now.trailer q.number q.node × Askable balances rows.now loads.now q }
         ensures grown { Grown (family self.old) (family self.new) × (self.new.links ≡ self.old.links) }
         ensures kept { (eqb (rule_number rule) 3 ≡ true → SentKept rows.now self.new.unions g q.node)
-            × (eqb (rule_number rule) 3 ≡ false → NeedsKept w.now.balances w.now.loads.now self.new.needs g q) }
+            × (eqb (rule_number rule) 3 ≡ false → NeedsKept balances loads.now self.new.needs g q) }
     {
         match rule {
-            PairRule::Third => join_sent(&mut self.unions, g, rows, &w.array, q),
-            PairRule::Fourth => join_needs(&mut self.needs, g, w, q),
+            PairRule::Third => join_sent(&mut self.unions, g, rows, array, q),
+            PairRule::Fourth => join_needs(&mut self.needs, g, balances, loads, q),
         }
     }
 
     // Set g keeps q.
-    fn keep(&mut self, rule: PairRule, g: usize, w: &Weighing, rows: &[u64; 1024], q: Side)
+    fn keep(
+        &mut self,
+        rule: PairRule,
+        g: usize,
+        array: &ArrayFile,
+        balances: usize,
+        rows: &[u64; 1024],
+        loads: &[u32],
+        q: Side,
+    )
         requires room { Room (family self.old) × (g < 12) }
-        requires asked { Reads w.now.array.bytes.now w.now.array.trailer q.number q.node × Askable w.now.balances rows.now w.now.loads.now q }
+        requires asked { Reads array.now.bytes.now array.now.trailer q.number q.node × Askable balances rows.now loads.now q }
         ensures grown { Grown (family self.old) (family self.new) × (self.new.links ≡ self.old.links) }
-        ensures covers { Covers (rule_number rule) (beside w.now rows.now) (family self.new) g q }
+        ensures covers { (bounds : List ℕ) → Covers (rule_number rule)
+            (setting array.now.bytes.now array.now.trailer balances rows.now loads.now bounds) (family self.new) g q }
     {
         marks::mark_if(&mut self.arities, true, arity_mark(g, q.node.arity));
         marks::join(&mut self.unions, g, rows, q.node.name);
-        self.join_figures(rule, g, w, rows, q);
+        self.join_figures(rule, g, array, balances, rows, loads, q);
     }
 
     // Node q comes before the senders of set g so far. A link is a node's number and 1, and 0 is the end: 16 bits a node, in a list of fixed length.
@@ -168,29 +186,35 @@ impl Sets {
         self.links[at] = (q + 1) as u16;
     }
 
-    // All senders that use a marked name: each is kept by its set, and linked.
+    // All senders that use a marked name, for the rule of this number: each is kept by its set, and linked. Bounds are not looked at: the lists are those
+    // of a setting, whatever its bounds, so that this takes no weighing.
     pub fn gather(
         &mut self,
-        rule: PairRule,
+        number: u8,
         fine: bool,
         names: &[u64; 4],
-        w: &Weighing,
+        array: &ArrayFile,
+        balances: usize,
         rows: &[u64; 1024],
+        loads: &[u32],
     )
-        requires { Vacant self.old }
-        ensures { Gathered (rule_number rule) (beside w.now rows.now) names.now (family self.new) self.new.links }
+        requires given { (bounds : List ℕ) × Given (setting array.now.bytes.now array.now.trailer balances rows.now loads.now bounds) }
+        requires vacant { Vacant self.old }
+        ensures { (bounds : List ℕ) → Gathered number (setting array.now.bytes.now array.now.trailer balances rows.now loads.now bounds)
+            names.now (family self.new) self.new.links }
     {
+        let rule = PairRule::from(number);
         let mut seen = [0u8; 256];
-        for i in 0..w.array.trailer.nodes {
+        for i in 0..array.trailer.nodes {
             let q = Side {
                 number: i,
-                node: w.array.node_at(i),
+                node: array.node_at(i),
             };
-            if !sends_by(names, &w.array, q) {
+            if !sends_by(names, array, q) {
                 continue;
             }
             let g = set_of(&mut seen, fine, q.node);
-            self.keep(rule, g, w, rows, q);
+            self.keep(rule, g, array, balances, rows, loads, q);
             self.link(g, i);
         }
     }

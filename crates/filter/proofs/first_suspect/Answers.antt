@@ -15,6 +15,7 @@ use Rattle.pairs.specs.Pairs.{rule_number, figures_of}
 use Rattle.pairs.specs.Weighing.{beside}
 use Rattle.pairs.proofs.Beside.{given-beside}
 use Rattle.pairs.proofs.Search.{side_at, nothing-found}
+use Rattle.pairs.proofs.Numbers.{same-screened}
 use Rattle.filter.proofs.first_suspect.Goals as goal
 
 -- without a balance rule 4 has none
@@ -29,8 +30,16 @@ pub returns-then-unweighed : goal.returns-then-unweighed
 returns-then-unweighed c =
     let w = c.args.w.now in
     let S = beside w c.args.rows.now in
-    let four : c.args.rule ≡ Fourth = same_true the_type (search rules) _ _ (sym c.if-eq.ensures) in (
+    let rule = c.from-rule.result in
+    let four : rule ≡ Fourth = same_true the_type (search rules) _ _ (sym c.if-eq.ensures) in (
       omega arith,
-      λ i h. nothing-found (rule_number c.args.rule) {p = side_at S i} (given-beside w c.args.rows.now c.told-rows) record { below = h; is = refl }
-          (no-figures _ four c.if-unweighed.true),
+      same-screened (rule_number rule) _ c.from-rule.ensures _ _ _
+          (λ i h. nothing-found (rule_number rule) {p = side_at S i} (given-beside w c.args.rows.now c.told-rows) record { below = h; is = refl }
+          (no-figures _ four c.if-unweighed.true)),
     )
+
+pub returns-then-from-w : goal.returns-then-from-w
+returns-then-from-w c = (c.ask-from.ensures.0, same-screened _ _ c.from-rule.ensures _ _ _ c.ask-from.ensures.1)
+
+pub returns : goal.returns
+returns c = (c.ask.ensures.0, same-screened _ _ c.from-rule.ensures _ _ _ c.ask.ensures.1)

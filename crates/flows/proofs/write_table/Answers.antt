@@ -1,10 +1,8 @@
 -- The table, the rows over it, and the end over both make the table with these rows (`table-written`).
 use Prim.Native.Nat.{◌-◌}
 use mathlib.Core.Path.{◌≡◌, sym, ap, ap₂, ◌∙◌}
-use mathlib.Core.List.{◌++◌}
-use lib.ListN.{length, drop}
+use lib.ListN.{length}
 use Rattle.laws.specs.Lists.{put}
-use Rattle.laws.proofs.Put.{put_front}
 use Rattle.wire.specs.Numbers.{seal_of}
 use Rattle.marks.specs.Marks.{marked}
 use Rattle.layout.specs.Table.{balance_at}
@@ -16,9 +14,7 @@ pub returns : goal.returns
 returns c =
     let x = c.args in
     let s = x.table.now in
-    let copied : c.copy_from_slice.new.self ++ drop (length s) x.output.now ≡ put 0 s x.output.now =
-    rw c.copy_from_slice.ensures.after (sym (put_front s x.output.now)) in
-    let over = ap (put 0 (row_bytes (balance_at x.z 0) (marked x.rows.now))) copied in
+    let over = ap (put 0 (row_bytes (balance_at x.z 0) (marked x.rows.now))) c.copy_bytes.ensures in
     c.seal.ensures
     ∙ ap₂ (λ n w. put (length s - 8) (seal_of w (length s - 8) n) w) c.u32_at.ensures (c.put_rows.ensures ∙ over)
     ∙ table-written x.z (marked x.rows.now) s c.requires.rows_in_bounds.2 x.output.now c.requires.table_in_bounds

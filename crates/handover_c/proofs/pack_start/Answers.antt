@@ -5,6 +5,7 @@ use Rattle.std.specs.Prelude.{Result}
 use Prim.Native.Nat.{ℕ}
 use Rattle.records.specs.declared.Refusal.{Refusal}
 use Rattle.handover.specs.Refusals.{said, StartNumber}
+use Rattle.handover.proofs.Refusals.{start-few}
 use Rattle.handover_c.specs.Packed.{packed_reply, FitsReply, packed_start, FitsStart}
 use Rattle.handover_c.proofs.pack_start.Goals as goal
 
@@ -16,7 +17,7 @@ pack_counts-requires c =
 pub pack_refusal-requires : goal.pack_refusal-requires
 pack_refusal-requires c =
     let h = subst (λ (y : Result ℕ Refusal). FitsReply FitsStart StartNumber (said y)) c.in-Err.is c.requires in
-    h.1
+    (start-few _ h.0, h.1)
 
 pub returns-in-Ok : goal.returns-in-Ok
 returns-in-Ok c = c.pack_counts.ensures ∙ ap (λ (y : Result ℕ Refusal). packed_reply packed_start (said y)) (sym c.in-Ok.is)

@@ -6,6 +6,7 @@ use Rattle.std.specs.Prelude.{Result}
 use Rattle.records.specs.declared.Refusal.{Refusal}
 use Rattle.engine.specs.declared.Walk.{Walk}
 use Rattle.handover.specs.Refusals.{said, WalkNumber}
+use Rattle.handover.proofs.Refusals.{walk-few}
 use Rattle.handover_c.specs.Packed.{packed_reply, counted, FitsReply, packed_walk, FitsWalk}
 use Rattle.handover_c.proofs.pack_walk.Goals as goal
 
@@ -17,7 +18,7 @@ pack_counts-requires c =
 pub pack_refusal-requires : goal.pack_refusal-requires
 pack_refusal-requires c =
     let h = subst (λ (y : Result Walk Refusal). FitsReply FitsWalk WalkNumber (said y)) c.in-Err.is c.requires in
-    h.1
+    (walk-few _ h.0, h.1)
 
 pub returns-in-Ok : goal.returns-in-Ok
 returns-in-Ok c =

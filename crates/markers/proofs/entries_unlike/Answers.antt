@@ -1,9 +1,11 @@
+use Prim.Native.Nat.{ℕ}
 use native.Mathlib.Nat.{not-suc-le-zero}
 use mathlib.Core.Path.{◌≡◌, sym, ap, ◌∙◌}
 use mathlib.Core.Bool.{not}
 use lib.ListN.{length}
 use native.Mathlib.Omega.{arith}
 use borrow.Author.Rules.{rules}
+use Rattle.laws.specs.Search.{every}
 use Rattle.laws.proofs.Search.{every-zero, every-pass, false-every}
 use Rattle.model.specs.Memory.{entries_in, unlike}
 use Rattle.markers.specs.Markers.{slot_of, listed}
@@ -56,3 +58,8 @@ returns c =
     let l = c.loop-k in
     let e : l.k ≡ x.count = omega arith in
     sym (rw e at l.invariant.1)
+
+pub returns-then-count-eq0 : goal.returns-then-count-eq0
+returns-then-count-eq0 c =
+    let x = c.args in
+    sym (ap (λ (n : ℕ). every n (unlike (entries_in x.count x.markers.now))) c.if-count-eq0.true ∙ every-zero _)

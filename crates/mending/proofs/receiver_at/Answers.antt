@@ -9,7 +9,7 @@ pub returns : goal.returns
 returns c = (
   record {
     held = record { below = c.requires; is = c.node_at.ensures };
-    receives = receives-figures 3 c.args.w.now.balances _ (λ e. c.if-figures-eq0.false (c.figures.ensures ∙ e));
+    receives = receives-figures 3 c.args.w.now.balances _ (λ e. c.if-figures-eq0.false ((rw c.number.ensures at c.figures.ensures) ∙ e));
   },
   ap side c.node_at.ensures,
 )

@@ -4,7 +4,7 @@ use Rattle.arrays.proofs.Agents.{left_below}
 use Rattle.std.specs.Prelude.{Option}
 use Rattle.pairs.specs.declared.Place.{Place}
 use Rattle.pairs.specs.declared.Side.{Side}
-use Rattle.pairs.specs.Pairs.{rule_number, Held, SmallFigure}
+use Rattle.pairs.specs.Pairs.{Held, SmallFigure}
 use Rattle.pairs.specs.Weighing.{beside}
 use Rattle.pairs.proofs.Beside.{given-beside}
 use Rattle.pairs.proofs.Laws.{name-row}
@@ -26,8 +26,8 @@ module _ (c : After-node_at) where
 -- a receiver with figures, before its senders
 module _ (c : Else-count-eq0) where
   begun : let x = c.args in let S = beside x.w.now x.rows.now in
-      (answer : Option Place) → AtReceiver (rule_number x.rule) S answer c.receiver.i
-      → AtSender (rule_number x.rule) S (record { number = c.receiver.i; node = c.node_at.result }) c.figures-count.result answer 0
+      (answer : Option Place) → AtReceiver x.number S answer c.receiver.i
+      → AtSender x.number S (record { number = c.receiver.i; node = c.node_at.result }) c.figures-count.result answer 0
   begun answer at = row at (record { below = c.receiver-test.true; is = c.node_at.ensures }) c.figures-count.ensures c.if-count-eq0.false
 
 -- a sender, once its record is read
@@ -98,13 +98,14 @@ balance-init c =
 pub figure_holds-requires : goal.figure_holds-requires
 figure_holds-requires c =
     let b = c.balance.invariant in
-    figure-there b.0 b.1 c.balance-test.true
+    let f = figure-there b.0 b.1 c.balance-test.true in
+    rw (c.from-rule.ensures) f
 
 pub balance-preserved : goal.balance-preserved
 balance-preserved c =
     let b = c.balance.invariant in
     let low = c.balance-test.true in
-    (pass b.0 low (sym (figure-by b.0 b.1 low) ∙ sym c.figure_holds.ensures ∙ c.if-not-figure_holds.false), b.1)
+    (pass b.0 low (sym (figure-by b.0 b.1 low) ∙ sym (rw c.from-rule.ensures at c.figure_holds.ensures) ∙ c.if-not-figure_holds.false), b.1)
 
 pub sender-preserved : goal.sender-preserved
 sender-preserved c = (next-pair c.balance.invariant.0 (omega arith), c.balance.invariant.1)
@@ -123,6 +124,6 @@ pub returns-then-not-figure_holds : goal.returns-then-not-figure_holds
 returns-then-not-figure_holds c =
     let b = c.balance.invariant in
     let low = c.balance-test.true in record {
-      result_value = found b.0 low (sym (figure-by b.0 b.1 low) ∙ sym c.figure_holds.ensures ∙ c.if-not-figure_holds.true);
+      result_value = found b.0 low (sym (figure-by b.0 b.1 low) ∙ sym (rw c.from-rule.ensures at c.figure_holds.ensures) ∙ c.if-not-figure_holds.true);
       small_figure = small-figure b.0 low;
     }

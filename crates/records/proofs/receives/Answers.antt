@@ -1,11 +1,18 @@
 use mathlib.Core.Path.{◌≡◌, refl}
-use mathlib.Core.Bool.{not, ◌&&◌}
-use Rattle.model.specs.Memory.{is_out}
-use Rattle.model.specs.Tree.{is_agent, receives}
+use mathlib.Core.Logic.{inl, inr}
+use mathlib.Core.Bool.{false}
+use Rattle.model.specs.Tree.{receives}
+use Rattle.records.specs.Record.{node_of}
 use Rattle.records.specs.Kinds.{is_receiver}
 use Rattle.records.proofs.Laws.{by_each}
 use Rattle.records.proofs.receives.Goals as goal
 
-pub returns : goal.returns
-unfolding is_agent is_out is_receiver receives
-returns c = rw (c.is_agent.ensures, c.sends.ensures) (by_each c.args.r (λ k n. is_agent n && not (is_out n) ≡ is_receiver n) refl refl refl refl refl refl refl (λ k. refl))
+pub returns-in-In : goal.returns-in-In
+unfolding node_of is_receiver receives
+returns-in-In c = elim c.in-In.is [ inl e ↦ rw e refl | inr f ↦ elim f [ inl e ↦ rw e refl | inr f ↦ rw f.1 refl ] ]
+
+pub returns-in_default : goal.returns-in_default
+unfolding is_receiver receives
+returns-in_default c =
+    by_each c.args.r (λ k n. c.args.r.kind ≡ k → false ≡ is_receiver n)
+    (λ e. refl) (λ e. refl) (λ e. refl) (λ e. refl) (λ e. refl) (λ e. absurd (c.in_default.not-In e)) (λ e. absurd (c.in_default.not-Resource e)) (λ x e. absurd (c.in_default.not-Other x e)) refl

@@ -31,7 +31,7 @@ loop-k-preserved c =
       grow = needs-trans l.invariant.grow grow;
       kept =
           below_more
-          (λ j. need_of x.w.now.loads.now x.q.number x.q.node.left j ≤ load_in (set l.needs (entry_index x.g l.k) c.greater.result) x.g j) l.k
+          (λ j. need_of x.loads.now x.q.number x.q.node.left j ≤ load_in (set l.needs (entry_index x.g l.k) c.greater.result) x.g j) l.k
           (λ j h. le_trans (l.invariant.kept j h) (grow.more _ j))
           (rw (entry_here l.needs x.g l.k c.greater.result fits before c.greater.ensures.2) need);
     }

@@ -11,5 +11,5 @@ abbrev pub invariant-loop-k : goal.invariant-loop-k
 invariant-loop-k l = record {
   size : length l.needs ≡ 288;
   grow : NeedsGrow l.initial.needs l.needs;
-  kept : (j : ℕ) → j < l.k → need_of l.w.loads.now l.q.number l.q.node.left j ≤ load_in l.needs l.g j;
+  kept : (j : ℕ) → j < l.k → need_of l.loads l.q.number l.q.node.left j ≤ load_in l.needs l.g j;
 }

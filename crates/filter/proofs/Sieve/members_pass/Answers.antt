@@ -51,7 +51,7 @@ pub breaks-requires-clause-figures : goal.breaks-requires-clause-figures
 breaks-requires-clause-figures c l =
     let p = c.requires.receives in
     let q = held (goal.at.breaks-requires-clause-figures c).After-node_at in
-    figures-there (given-in c.requires.sieves.0) p.0 p.1 c.loop-next.invariant.1 q l (rule_in c.args.self.now)
+    rw c.number.ensures (figures-there (given-in c.requires.sieves.0) p.0 p.1 c.loop-next.invariant.1 q l (rule_in c.args.self.now))
 
 pub loop-next-preserved : goal.loop-next-preserved
 loop-next-preserved c =
@@ -63,7 +63,7 @@ loop-next-preserved c =
       rw c.from-next-in-loop-next.ensures
           (members-more (rule_in s) (setting_in s) c.args.p c.args.g s.sets.now.links l.end l.next (l.next - 1)
           (omega (arith, c.loop-next-test.true)) l.invariant.0 (omega (arith, q.below)) c.node_at.result c.node_at.ensures
-          (sym same ∙ sym c.breaks.ensures ∙ c.if-breaks.false)),
+          (sym same ∙ sym (rw c.number.ensures at c.breaks.ensures) ∙ c.if-breaks.false)),
       l.invariant.1,
     )
 

@@ -16,13 +16,13 @@ held c = record { below = c.requires.1; is = c.node_at.ensures }
 pub returns-then-figures-eq0 : goal.returns-then-figures-eq0
 returns-then-figures-eq0 c e =
     nothing-found (rule_in c.args.self.now) (given-in c.requires.0) (held (goal.at.returns-then-figures-eq0 c).After-node_at)
-    (sym c.figures.ensures ∙ c.if-figures-eq0.true)
+    (sym (rw c.number.ensures at c.figures.ensures) ∙ c.if-figures-eq0.true)
 
 -- a node with figures receives
 receiver : (c : Else-figures-eq0) → is_receiver (node_of c.node_at.result) ≡ true
 receiver c =
     let s = c.args.self.now in
-    receives-figures (rule_in s) s.w.now.balances _ (λ e. c.if-figures-eq0.false (c.figures.ensures ∙ e))
+    receives-figures (rule_in s) s.w.now.balances _ (λ e. c.if-figures-eq0.false ((rw c.number.ensures at c.figures.ensures) ∙ e))
 
 pub passes-requires : goal.passes-requires
 passes-requires c = record {

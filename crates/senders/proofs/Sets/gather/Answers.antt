@@ -1,34 +1,34 @@
 use Prim.Native.Nat.{◌<◌}
 use mathlib.Core.Path.{◌≡◌, refl, sym, ◌∙◌}
 use mathlib.Core.Bool.{true}
+use mathlib.Core.List.{[]}
 use native.Mathlib.Omega.{arith}
 use Rattle.laws.proofs.Search.{and_split}
 use Rattle.model.specs.Memory.{is_out}
 use Rattle.records.specs.Record.{node_of}
 use Rattle.arrays.specs.Agents.{Reads}
-use Rattle.pairs.proofs.Beside.{given-beside}
 use Rattle.senders.specs.Sets.{Askable}
 use Rattle.senders.proofs.Laws.{askable}
-use Rattle.senders.proofs.Gathering.{gathered_none, gathered-skip, gathered-more, gathered-all}
+use Rattle.senders.proofs.Gathering.{gathered_none, gathered-skip, gathered-more, gathered-all, gathered-beside, covers-alike}
 use Rattle.senders.proofs.Sets.gather.Goals as goal
 use Rattle.senders.proofs.Sets.gather.Goals.{After-node_at}
 
 -- the node is one of at most 1,024
 low : (c : After-node_at) → c.loop-i.i < 1024
-low c = omega (arith, c.loop-i-test.true, c.args.w.now.is_weighed.read.formed.few_nodes)
+low c = omega (arith, c.loop-i-test.true, c.requires.given.1.read.formed.few_nodes)
 
 -- its record is that of node i
-lies : (c : After-node_at) → let a = c.args.w.now.array in Reads a.bytes.now a.trailer c.loop-i.i c.node_at.result
+lies : (c : After-node_at) → let a = c.args.array.now in Reads a.bytes.now a.trailer c.loop-i.i c.node_at.result
 lies c = record { below = omega arith; is = c.node_at.ensures }
 
 -- what the lists have of node i, where it sends
 sender : (c : After-node_at) → is_out (node_of c.node_at.result) ≡ true
     → let x = c.args in
-    Askable x.w.now.balances x.rows.now x.w.now.loads.now record { number = c.loop-i.i; node = c.node_at.result }
-sender c e = let x = c.args in askable (given-beside x.w.now x.rows.now (omega arith)) (lies c) e
+    Askable x.balances x.rows.now x.loads.now record { number = c.loop-i.i; node = c.node_at.result }
+sender c e = askable c.requires.given.1 (lies c) e
 
 pub loop-i-init : goal.loop-i-init
-loop-i-init c = record { seen = refl; gathered = rw c.requires.links (gathered_none _ _ _ _ c.requires.room) }
+loop-i-init c = record { seen = refl; gathered = rw c.requires.vacant.links (gathered_none _ _ _ _ c.requires.vacant.room) }
 
 pub sends_by-requires-clause-name_bound : goal.sends_by-requires-clause-name_bound
 sends_by-requires-clause-name_bound c e =
@@ -57,11 +57,11 @@ loop-i-preserved c =
           rw (c.link.ensures, c.keep.ensures.grown.1)
           (gathered-more _ _ _ l.i l.invariant.gathered c.node_at.result c.node_at.ensures (omega arith)
           (low (goal.at.loop-i-preserved c).After-node_at) c.set_of-g.result c.set_of-g.ensures.0 c.keep.ensures.grown.0
-          (sym c.sends_by.ensures ∙ c.if-not-sends_by.false) c.keep.ensures.covers);
+          (sym c.sends_by.ensures ∙ c.if-not-sends_by.false) (covers-alike _ _ c.from-rule.ensures (c.keep.ensures.covers [])));
     }
 
 pub returns : goal.returns
 returns c =
     let l = c.loop-i in
-    let e : l.i ≡ c.args.w.now.array.trailer.nodes = omega arith in
-    gathered-all _ _ _ (rw e at l.invariant.gathered)
+    let e : l.i ≡ c.args.array.now.trailer.nodes = omega arith in
+    gathered-beside (gathered-all _ _ _ (rw e at l.invariant.gathered))

@@ -34,7 +34,7 @@ returns-clause-grown c =
     )
 
 pub returns-clause-covers : goal.returns-clause-covers
-returns-clause-covers c =
+returns-clause-covers c bounds =
     let mark = marked-is (goal.at.returns-clause-covers c).After-mark_if in
     let g = c.join_figures.ensures.grown.0 in record {
       arity = g.arities _ (rw mark (mark-adds _ _ (fits (goal.at.returns-clause-covers c).Start)));

@@ -1,5 +1,5 @@
 -- Field by field, what each read ensures.
-use Rattle.layout.proofs.TableFile.claim.Goals as goal
+use Rattle.layout.proofs.read_claim.Goals as goal
 
 pub returns : goal.returns
 returns c =
