@@ -41,7 +41,7 @@ pub fn first_of_set(table: &[u8], z: Sizes, c: usize) -> usize
     if set == 0 {
         return c;
     }
-    // No range: the search ends at c itself, and a test of where it is would make 256 sets half as slow again.
+    // No range: the search ends at c itself, and with a test of where it is 256 sets take 1.4 times as long.
     let mut d: usize = 0;
     while layout::read_claim(table, z, d).set != set {
         d += 1;

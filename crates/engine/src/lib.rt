@@ -303,7 +303,7 @@ pub fn next_turn(
 {
     let mut frees = [0u64; 4096];
     if !lent::lists_formed(&mut frees, array, threads, markers, counts) {
-        return Err(Reason::Lists); // told
+        return Err(Reason::Lists); // told step by step
     }
     let ground = Ground {
         array: *array,

@@ -126,6 +126,7 @@ fn cap(bound: u32) -> u32
 }
 
 // The differences of receiver p. It, and what asks a pair alone, takes lists and no weighing: what they ask is less than a weighing says. Lengths stand as a clause, since the type of a result tells no caller's proof.
+// Part of its callers, since what it answers is 192 bytes.
 #[inline(always)]
 pub fn differences(balances: usize, loads: &[u32], bounds: &[u32], p: Side) -> Margins
     requires few { (length bounds.now ≡ 24) × (balances ≤ 24) }

@@ -1,6 +1,6 @@
 -- The table, the rows over it, and the end over both make the table with these rows (`table-written`).
 use Prim.Native.Nat.{◌-◌}
-use mathlib.Core.Path.{◌≡◌, sym, ap, ap₂, ◌∙◌}
+use mathlib.Core.Path.{ap, ap₂, ◌∙◌}
 use lib.ListN.{length}
 use Rattle.laws.specs.Lists.{put}
 use Rattle.wire.specs.Numbers.{seal_of}
