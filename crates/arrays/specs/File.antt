@@ -1,11 +1,11 @@
 -- The array file: its trailer, refusals 1 to 12 in checking order, and the reader's answers (01, "The array file", "Refusals").
-use Rattle.std.specs.Prelude.{ℕ, ◌+◌, ◌*◌, ◌-◌, ◌/◌, ◌%◌, ◌≤◌, ◌≡◌, Bool, cond, ◌&&◌, List, [], eqb, leb, length, take, Option, Some, None, is_some, Result, Ok, Err}
+use Rattle.std.specs.Prelude.{ℕ, ◌+◌, ◌*◌, ◌-◌, ◌/◌, ◌%◌, ◌≤◌, ◌≡◌, Bool, cond, ◌&&◌, true, false, List, [], eqb, leb, length, take, Option, Some, None, Result, Ok, Err}
 use Rattle.laws.specs.Search.{Found, clear, hit, and_then}
 use Rattle.wire.specs.Numbers.{u16_at, u32_at, word_sum}
 use Rattle.model.specs.Formed as F
 use Rattle.model.specs.Formed.{WellFormed, refuse, refusal8, refusal9, refusal10, refusal11, refusal12}
 use Rattle.records.specs.declared.Form.{Form}
-use Rattle.records.specs.declared.Form.TheVariants.{Pis1}
+use Rattle.records.specs.declared.Form.TheVariants.{Pis1, Other}
 use Rattle.records.specs.declared.Trailer.{Trailer}
 use Rattle.records.specs.Record.{array_of}
 use Rattle.fields.specs.Fields.{refusal6, refusal7}
@@ -17,6 +17,12 @@ pis1 = 80 + 256 * 73 + 65536 * 83 + 16777216 * 49
 -- the format that the letters name, if any
 abbrev pub array_form : ℕ → Option Form
 array_form letters = cond (eqb letters pis1) (Some Pis1) None
+
+-- the format is the one that array files have
+abbrev pub is_pis1 : Option Form → Bool
+is_pis1 None = false
+is_pis1 (Some Pis1) = true
+is_pis1 (Some (Other n)) = false
 
 -- "a 16-byte trailer that points back: start of the records (32 bits), M (16), N (16), word sum (32), the letters `PIS1`"
 abbrev pub trailer_of : List ℕ → Trailer
@@ -37,7 +43,7 @@ refusal1 s = refuse 1 0 (array_length_fits s)
 
 -- "2. Its letters are wrong."
 abbrev pub refusal2 : Trailer → Found F.Refusal
-refusal2 t = refuse 2 0 (is_some t.form)
+refusal2 t = refuse 2 0 (is_pis1 t.form)
 
 -- "3. M is 0 or above 1,024, or N is above 256."
 abbrev pub array_counts_fit : Trailer → Bool

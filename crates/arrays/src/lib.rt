@@ -63,7 +63,7 @@ pub fn open(bytes: &[u8]) -> Result<ArrayFile<'_>, Refusal>
         return Err(Reason::ArrayLength.into());
     }
     let trailer = read_trailer(bytes);
-    if trailer.form.is_none() {
+    if trailer.form != Some(Form::Pis1) {
         return Err(Reason::ArrayLetters.into());
     }
     if !((1 <= trailer.nodes) & (trailer.nodes <= 1024) & (trailer.names <= 256)) {

@@ -60,7 +60,7 @@ impl Script<'_, '_, '_> {
 
     // A refusal, after which the next call is told the counts of before.
     fn refused(&self, rt: &impl Print, refusal: Refusal) -> Counts {
-        lines::print_refusal(rt, refusal);
+        lines::print_refusal(rt, refusal.reason.number(), refusal.place);
         self.counts
     }
 

@@ -13,7 +13,7 @@ use Rattle.laws.specs.Search as F
 use Rattle.laws.specs.Lists as L
 use Rattle.laws.specs.Lists.{All}
 use Rattle.laws.specs.Search.{every}
-use Rattle.laws.proofs.Search.{every_true}
+use Rattle.laws.proofs.Search.{every_true, hit-test}
 use Rattle.laws.proofs.Lists.{All-map, every-All}
 use Rattle.wire.specs.Numbers as N
 use Rattle.model.specs.Tree as T
@@ -43,7 +43,7 @@ use Rattle.engine.specs.declared.Walk.{Walk}
 use Rattle.handover.specs.Bodies.{verdict_of}
 use Rattle.handover.specs.Engine.{start_of, step_of, walk_of, next_left, stride_of, Left}
 use Rattle.handover.specs.Files.{pis, nodes_a, in_order_a, turned_a, repeated_a, Case, cases, Unkept, Kept, remark, remarked_b}
-use Rattle.handover.specs.Files.{tables_read, arrays_read, Letters, Denies, unmended}
+use Rattle.handover.specs.Files.{tables_read, arrays_read, Letters, OtherFormats, Denies, unmended}
 use Rattle.handover.specs.Files.{Answered, calls, to_left, Ended, Answers, endings, Unlisted}
 use Rattle.handover.specs.Mending.{mend_reply, mend_output}
 use Rattle.handover.specs.Refusals.{done, said, TableNumber, StartNumber, WalkNumber}
@@ -177,6 +177,9 @@ tables_read_lem = refl
 
 pub letters-hold : Letters
 letters-hold = (refl, refl)
+
+pub other-formats : OtherFormats
+other-formats = record { array = λ start nodes names sum n. hit-test false _ refl; table = λ nodes names balances claims n. hit-test false _ refl }
 
 pub unmended-hold : All Denies unmended
 unfolding computed mend_reply mend_output

@@ -7,10 +7,12 @@ use Rattle.model.specs.Rules.{Rules}
 use Rattle.records.specs.declared.Refusal.{Refusal}
 use Rattle.records.specs.declared.Form.TheVariants.{Pis1}
 use Rattle.records.specs.declared.Trailer.{Trailer}
-use Rattle.arrays.specs.File.{pis1}
+use Rattle.records.specs.declared.Form.TheVariants as A
+use Rattle.arrays.specs.File.{pis1, refusal2}
 use Rattle.layout.specs.declared.Form.TheVariants.{Pic1}
 use Rattle.layout.specs.declared.Sizes.{Sizes}
-use Rattle.layout.specs.Table.{pic1}
+use Rattle.layout.specs.declared.Form.TheVariants as B
+use Rattle.layout.specs.Table.{pic1, refusal14}
 use Rattle.model.specs.declared.Ending.TheVariants.{Quiet, Spent, Full}
 use Rattle.model.specs.Memory.{Memory, memory}
 use Rattle.tables.specs.Read.{files_refusal}
@@ -223,6 +225,13 @@ arrays_read = (remarked_b, record { start = 8; nodes = 7; names = 1; sum = 68485
 -- the letters that the files end with: P, I, S, 1 and P, I, C, 1
 abbrev pub Letters : Type 0
 Letters = (le32 pis1 ≡ 80 ∷ 73 ∷ 83 ∷ 49 ∷ []) × (le32 pic1 ≡ 80 ∷ 73 ∷ 67 ∷ 49 ∷ [])
+
+-- a format that no letters name is refused, by 2 and by 14
+pub record OtherFormats : Type 0 where
+  pub array : (start nodes names sum n : ℕ)
+      → refusal2 record { start = start; nodes = nodes; names = names; sum = sum; form = Some (A.Other n) } ≡ hit record { number = 2; place = 0 }
+  pub table : (nodes names balances claims n : ℕ)
+      → refusal14 record { nodes = nodes; names = names; balances = balances; claims = claims; form = Some (B.Other n) } ≡ hit record { number = 14; place = 0 }
 
 -- ---- mending: files and a lent output that are refused, with the refusal's number and place, and the output is left as it was
 

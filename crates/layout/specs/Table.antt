@@ -1,6 +1,6 @@
 -- The table file: its parts, the table that its bytes stand for, and refusals 13 to 21, 30 and 31 (01, "The table file", "Refusals, in
 -- checking order"; 02, requests i and ii).
-use Rattle.std.specs.Prelude.{ℕ, zero, suc, ◌+◌, ◌*◌, ◌-◌, ◌/◌, ◌%◌, ◌≤◌, ◌≡◌, Bool, true, cond, not, ◌&&◌, ◌||◌, List, Option, Some, None, is_some, eqb, leb, ltb, length, get_or}
+use Rattle.std.specs.Prelude.{ℕ, zero, suc, ◌+◌, ◌*◌, ◌-◌, ◌/◌, ◌%◌, ◌≤◌, ◌≡◌, Bool, true, false, cond, not, ◌&&◌, ◌||◌, List, Option, Some, None, eqb, leb, ltb, length, get_or}
 use Rattle.laws.specs.Search.{Found, clear, first, every}
 use Rattle.laws.specs.Bits.{bit}
 use Rattle.wire.specs.Numbers.{u16_at, u32_at, word_sum}
@@ -12,7 +12,7 @@ use Rattle.model.specs.Rules.{Table, row_bits, together, comes_after}
 use Rattle.records.specs.declared.Trailer.{Trailer}
 use Rattle.records.specs.Record.{array_of}
 use Rattle.layout.specs.declared.Form.{Form}
-use Rattle.layout.specs.declared.Form.TheVariants.{Pic1}
+use Rattle.layout.specs.declared.Form.TheVariants.{Pic1, Other}
 use Rattle.layout.specs.declared.Sizes.{Sizes}
 
 -- ---- the parts of the file
@@ -24,6 +24,12 @@ pic1 = 80 + 256 * 73 + 65536 * 67 + 16777216 * 49
 -- the format that the letters name, if any
 abbrev pub table_form : ℕ → Option Form
 table_form letters = cond (eqb letters pic1) (Some Pic1) None
+
+-- the format is the one that table files have
+abbrev pub is_pic1 : Option Form → Bool
+is_pic1 None = false
+is_pic1 (Some Pic1) = true
+is_pic1 (Some (Other n)) = false
 
 -- what a format says: "rows of 32 bytes", "K of them, at most 24"
 abbrev pub row_size : Option Form → ℕ
@@ -88,7 +94,7 @@ refusal13 s = refuse 13 0 (table_length_fits s)
 
 -- "14. Its letters are wrong."
 abbrev pub refusal14 : Sizes → Found F.Refusal
-refusal14 z = refuse 14 0 (is_some z.form)
+refusal14 z = refuse 14 0 (is_pic1 z.form)
 
 -- "15. K is above 24 or Q above 256."
 abbrev pub table_counts_fit : Sizes → Bool

@@ -8,10 +8,11 @@ ghost use Rattle.layout.specs.Table.{table_form, row_size, most_balances, sizes_
 use model::Claim;
 use records::Trailer;
 
-// A format of table files, by its letters.
-#[derive(Clone, Copy)]
+// A format of table files, by its letters. `Other` is one that no letters name, by a caller's number; refusal 14 keeps it out.
+#[derive(Clone, Copy, Debug, PartialEq, Eq)]
 pub enum Form {
     Pic1,
+    Other(usize),
 }
 
 // M, N, K and Q, and which format the letters name, if any.

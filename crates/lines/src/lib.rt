@@ -27,13 +27,14 @@ fn print_line(rt: &impl Print, line: &impl Display) {
     let _ = println!(rt; "{line}");
 }
 
-pub fn print_refusal(rt: &impl Print, refusal: Refusal) {
-    let _ = print!(rt; "{refusal}");
+// A refusal by its number, any one, and its place.
+pub fn print_refusal(rt: &impl Print, number: u8, place: usize) {
+    let _ = print!(rt; "refused {number} {place}");
 }
 
-// A refusal's line.
-pub fn print_refused(rt: &impl Print, refusal: Refusal) {
-    print_line(rt, &refusal);
+// Its line.
+pub fn print_refused(rt: &impl Print, number: u8, place: usize) {
+    let _ = println!(rt; "refused {number} {place}");
 }
 
 // The answer's line: what it says, or the refusal.

@@ -71,7 +71,7 @@ fn fill_node(loads: &mut [u32; 24578], array: &ArrayFile, table: &TableFile, i: 
     ensures { FilledFrom loads.new (array_in array.now) (table_in table.now) i }
 {
     let r = array.node_at(i);
-    // its own, so that they need not be read again after each write
+    // Copied, so that they need not be read again after each write.
     let bytes = table.bytes;
     let sizes = table.sizes;
     for k in 0..sizes.balances {

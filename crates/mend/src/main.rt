@@ -58,6 +58,6 @@ fn main(rt: HostRuntime) {
     let table = lines::read_file(&rt, b"table.pic", &mut table);
     match handover::mend(array, table, &mut mended) {
         Ok(bits) => keep(&rt, &mended[..table.len()], bits),
-        Err(refusal) => lines::print_refused(&rt, refusal),
+        Err(refusal) => lines::print_refused(&rt, refusal.reason.number(), refusal.place),
     }
 }

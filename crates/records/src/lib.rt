@@ -113,10 +113,11 @@ pub fn first_failing<F: Fn(usize) -> bool>(
     Ok(())
 }
 
-// A format of array files, by its letters.
-#[derive(Clone, Copy)]
+// A format of array files, by its letters. `Other` is one that no letters name, by a caller's number; refusal 2 keeps it out.
+#[derive(Clone, Copy, Debug, PartialEq, Eq)]
 pub enum Form {
     Pis1,
+    Other(usize),
 }
 
 // What an array file's trailer says: where the records start, the numbers of nodes and names, the word sum, and which format the letters
@@ -151,9 +152,10 @@ pub enum Kind {
     Out,
     In,
     Resource,
-    Other(u8),
+    Other(usize),
 }
 
+// A record's first byte.
 impl From<u8> for Kind {
     ghost from_gives = { λ number kind. kind ≡ kind_of number };
 
@@ -166,7 +168,20 @@ impl From<u8> for Kind {
             4 => Kind::Out,
             5 => Kind::In,
             6 => Kind::Resource,
-            above => Kind::Other(above - 7),
+            above => Kind::Other(usize::from(above - 7)),
+        }
+    }
+}
+
+// Any number.
+impl From<usize> for Kind {
+    ghost from_gives = { λ number kind. kind ≡ kind_of number };
+
+    fn from(number: usize) -> Kind {
+        if number < 7 {
+            Kind::from(number as u8)
+        } else {
+            Kind::Other(number - 7)
         }
     }
 }

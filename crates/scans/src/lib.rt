@@ -3,13 +3,13 @@
 // model and laws. The tables take 34,304 bytes of stack.
 #![tactic(auto)]
 
-ghost use Rattle.std.specs.Prelude.{◌≡◌, true, false, ℕ, ◌*◌, ◌<◌, ◌≤◌, eqb, length, get_or};
+ghost use Rattle.std.specs.Prelude.{◌≡◌, true, false, ◌&&◌, ℕ, ◌*◌, ◌<◌, ◌≤◌, eqb, length, get_or};
 ghost use Rattle.laws.specs.Search.{every};
 ghost use Rattle.laws.specs.Lists.{one, all, has, times};
 ghost use Rattle.marks.specs.Marks.{HasRow, marked};
 ghost use Rattle.model.specs.Tree.{is_agent};
 ghost use Rattle.records.specs.Record.{node_of};
-ghost use Rattle.fields.specs.Fields.{rest_zero};
+ghost use Rattle.fields.specs.Fields.{rest_zero, fields_zero, children_fit};
 ghost use Rattle.counts.specs.Counts.{Grown, Below};
 ghost use Rattle.scopes.specs.Scope.{passed};
 ghost use Rattle.scans.specs.Pass.{Clear, record_fits, count_fits, Ready, Passed};
@@ -33,12 +33,23 @@ fn rest_zero(r: Record) -> bool
     true
 }
 
+// 7 and 8 pass at node i of m, an agent whose record is r, but for the argument bytes: it has one child, and uses its name.
+fn one_child_fits(m: usize, i: usize, r: Record) -> bool
+    requires { is_agent (node_of r) ≡ true }
+    ensures { result ≡ fields_zero r && children_fit m i r }
+{
+    (r.pad == 0) & (r.right == 0) & ((i < r.left) & (r.left < m))
+}
+
 // 6, 7 and 8 pass at node i of m, an agent whose record is r, and its channel is marked in its row.
 fn agent_fits(reach: &[u64], m: usize, i: usize, r: Record) -> bool
-    requires { HasRow reach.now i × (r.name < 256) }
+    requires { HasRow reach.now i × (r.name < 256) × (is_agent (node_of r) ≡ true) }
     ensures { result ≡ true → (record_fits m i r ≡ true) × (every 8 (rest_zero r) ≡ true) × (marked reach.now i r.name ≡ true) }
 {
-    record_fits(m, i, r) & rest_zero(r) & marks::is_marked(reach, i, r.name)
+    fields::shape_fits(r)
+        & one_child_fits(m, i, r)
+        & rest_zero(r)
+        & marks::is_marked(reach, i, r.name)
 }
 
 // The arguments are marked in row i.
@@ -114,7 +125,7 @@ fn hand_down(reach: &mut [u64], parents: &mut [u8], from: usize, to: usize, boun
     count_field(parents, to)
 }
 
-// Passes node i of m, an agent whose record is r. False where it does not fit.
+// Passes node i of m, an agent whose record is r. False where it does not fit. Part of the pass, as the next two are, and not called for each node.
 #[inline(always)]
 fn pass_agent(
     reach: &mut [u64],
@@ -174,7 +185,7 @@ fn pass_other(
     hand_down(reach, parents, i, r.right, [0; 4])
 }
 
-// Passes node i of m, whose record is r. False where it does not fit. Part of both passes below, and not called for each node.
+// Passes node i of m, whose record is r. False where it does not fit.
 #[inline(always)]
 fn pass_node(
     reach: &mut [u64],

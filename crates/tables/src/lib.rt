@@ -9,7 +9,7 @@ ghost use Rattle.records.specs.Record.{answered, found_of};
 ghost use Rattle.layout.specs.Table.{parts_fit, Laid};
 ghost use Rattle.tables.specs.Read.{from14, from16, from18, from20, from21, table_refusal, read_table};
 
-use layout::{Sizes, TableFile};
+use layout::{Form, Sizes, TableFile};
 use records::{ArrayFile, Reason, Refusal};
 
 // Refusals 21, 30 and 31.
@@ -79,7 +79,7 @@ fn check_letters(array: &ArrayFile, table: &[u8], z: Sizes) -> Result<(), Refusa
     requires { (z.nodes ≡ array.now.trailer.nodes) × (z.names ≡ array.now.trailer.names) × (28 ≤ length table.now) }
     ensures { found_of result ≡ from14 array.now.bytes.now array.now.trailer table.now z }
 {
-    if z.form.is_none() {
+    if z.form != Some(Form::Pic1) {
         return Err(Reason::TableLetters.into());
     }
     if !((z.balances <= z.most_balances()) & (z.claims <= 256)) {

@@ -48,6 +48,6 @@ fn main(rt: HostRuntime) {
     let mut array = [0u8; lines::ARRAY_ROOM];
     let array = lines::read_full(&mut rt.stdin(), &mut array);
     if let Err(refusal) = print_array(&rt, array) {
-        lines::print_refused(&rt, refusal);
+        lines::print_refused(&rt, refusal.reason.number(), refusal.place);
     }
 }

@@ -27,7 +27,7 @@ pub agent_fits-requires : goal.agent_fits-requires
 agent_fits-requires c =
     let here = c.requires.ready.here in
     let rows = c.requires.ready.rows in
-    (omega arith, c.requires.agent.0)
+    (omega arith, c.requires.agent.0, c.requires.agent.1)
 
 pub returns-then-not-agent_fits : goal.returns-then-not-agent_fits
 returns-then-not-agent_fits c e = absurd (false≢true e)

@@ -1,23 +1,34 @@
 -- Refusals 14 and 15 by their tests, then the rest.
-use mathlib.Core.Path.{◌≡◌, refl, ap, ◌∙◌}
-use mathlib.Core.Bool.{true, not}
-use Rattle.std.specs.Prelude.{is_some}
+use mathlib.Core.Path.{◌≡◌, refl, sym, ap, ◌∙◌}
+use mathlib.Core.Bool.{Bool, true, not}
+use Rattle.std.specs.Prelude.{Option, Some, None}
+use Rattle.std.specs.Option.{option_eq}
 use Rattle.records.specs.declared.Reason.TheVariants.{TableLetters, TableSizes}
 use Rattle.records.proofs.Checks.{fails, holds}
+use Rattle.layout.specs.declared.Form.{Form}
+use Rattle.layout.specs.declared.Form.TheVariants.{Pic1, Other}
+use Rattle.layout.specs.contracts.FormPartialEq.TheImpl.{eq-value as the_eq}
+use Rattle.layout.specs.Table.{is_pic1}
 use Rattle.tables.proofs.Laws.{counts-fit}
 use Rattle.tables.proofs.check_letters.Goals as goal
-use Rattle.tables.proofs.check_letters.Goals.{Else-is_none}
+use Rattle.tables.proofs.check_letters.Goals.{Else-ne}
 
-named : (c : Else-is_none) → is_some c.args.z.form ≡ true
-named c = c.is_none.ensures ∙ ap not c.if-is_none.false
+-- the comparison with the one format, as code makes it
+letters : (form : Option Form) (ne : Bool) → ne ≡ not (option_eq the_eq.it form (Some Pic1)) → is_pic1 form ≡ not ne
+letters None ne e = sym (ap not e)
+letters (Some Pic1) ne e = sym (ap not e)
+letters (Some (Other n)) ne e = sym (ap not e)
 
-pub returns-then-is_none : goal.returns-then-is_none
-returns-then-is_none c = rw c.into.ensures (fails TableLetters _ _ _ refl (c.is_none.ensures ∙ ap not c.if-is_none.true))
+named : (c : Else-ne) → is_pic1 c.args.z.form ≡ true
+named c = letters _ _ c.ne.ensures ∙ ap not c.if-ne.false
+
+pub returns-then-ne : goal.returns-then-ne
+returns-then-ne c = rw c.into.ensures (fails TableLetters _ _ _ refl (letters _ _ c.ne.ensures ∙ ap not c.if-ne.true))
 
 pub returns-then-not-z-most_balances : goal.returns-then-not-z-most_balances
 returns-then-not-z-most_balances c =
     let tested = c.if-not-z-most_balances.true in
-    holds TableLetters _ _ (named (goal.at.returns-then-not-z-most_balances c).Else-is_none)
+    holds TableLetters _ _ (named (goal.at.returns-then-not-z-most_balances c).Else-ne)
     (rw c.into-then-not-z-most_balances.ensures (fails TableSizes _ _ _ refl (rw c.most_balances.ensures at tested)))
 
 pub check_parts-requires : goal.check_parts-requires
@@ -29,4 +40,4 @@ check_parts-requires c =
 pub returns : goal.returns
 returns c =
     let tested = c.if-not-z-most_balances.false in
-    holds TableLetters _ _ (named (goal.at.returns c).Else-is_none) (holds TableSizes _ _ (rw c.most_balances.ensures at tested) c.check_parts.ensures)
+    holds TableLetters _ _ (named (goal.at.returns c).Else-ne) (holds TableSizes _ _ (rw c.most_balances.ensures at tested) c.check_parts.ensures)

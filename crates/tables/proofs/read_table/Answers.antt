@@ -1,11 +1,9 @@
 -- By the array's answer, then by the table's.
 use mathlib.Core.Path.{◌≡◌, refl, sym, ap, ◌∙◌}
-use Rattle.std.specs.Prelude.{Ok}
 use Rattle.std.proofs.lemmas.Result.{err_from_is_err_and}
 use Rattle.laws.proofs.Search.{test-clear, and_then-split}
 use Rattle.records.specs.Record.{told, found_of}
 use Rattle.records.proofs.Checks.{passes}
-use Rattle.arrays.specs.File.{read_array}
 use Rattle.layout.specs.declared.Sizes.{Sizes}
 use Rattle.layout.specs.Table.{sizes_of, table_length_fits}
 use Rattle.tables.specs.Read.{table_refusal, sizes_answer, read_table}
